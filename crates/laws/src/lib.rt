@@ -1,0 +1,1 @@
+// General laws that know nothing of the planner; all of them stand in specs/.

@@ -1,0 +1,18 @@
+-- `model::setting::put_most` meets its contract.
+use borrow.Author.Needs.{needs}
+use native.Mathlib.Omega.{arith}
+use Rattle.laws.specs.Tables.{past-put}
+use Rattle.model.proofs.setting.put_most.Statement.{statement}
+use Rattle.model.proofs.setting.put_most.Tie as tie
+
+array-write-table : tie.Need-array-write-table
+array-write-table c = search needs
+
+returns : tie.Need-returns
+returns c = search needs
+
+returns-2 : tie.Need-returns-2
+returns-2 c = past-put _ _ _ (omega arith)
+
+pub put-most-spec : {M : Type 1} → statement M
+put-most-spec = tie.close (tie.spec array-write-table returns returns-2)

@@ -1,0 +1,74 @@
+// A GPU of the table: what the trace says of it, its owner and the owners of its slices.
+
+use crate::sizes::GPUS;
+use crate::sizes::SLICES;
+ghost use mathlib.Core.Path.{_≡_};
+ghost use lib.ListN.{getD, set};
+ghost use Rattle.model.specs.Gpu.{noGpu};
+
+// An owner is a job's number plus 1, or 0 for nobody; group and profile are stored likewise.
+pub struct Gpu {
+    pub node: u8,
+    pub kind: u8,
+    pub memory: f64,
+    pub group: u16,
+    pub mig: bool,
+    pub owner: u16,
+    pub profile: u8,
+    pub slices: u8,
+    pub owners: [u16; SLICES],
+}
+
+pub fn no_gpu() -> Gpu
+    ensures { λ r. ⌜ r ≡ noGpu ⌝ }
+{
+    Gpu {
+        node: 0,
+        kind: 0,
+        memory: 0.0,
+        group: 0,
+        mig: false,
+        owner: 0,
+        profile: 0,
+        slices: 0,
+        owners: [0; SLICES],
+    }
+}
+
+pub fn gpu_at(gpus: [Gpu; GPUS], i: usize) -> Gpu
+    ensures { λ r. ⌜ r ≡ getD gpus i noGpu ⌝ }
+{
+    if i < GPUS {
+        return gpus[i];
+    }
+    no_gpu()
+}
+
+pub fn put_gpu(gpus: [Gpu; GPUS], i: usize, g: Gpu) -> [Gpu; GPUS]
+    ensures { λ r. ⌜ r ≡ set gpus i g ⌝ }
+{
+    let mut table = gpus;
+    if i < GPUS {
+        table[i] = g;
+    }
+    table
+}
+
+pub fn slice_owner_at(owners: [u16; SLICES], i: usize) -> u16
+    ensures { λ r. ⌜ r ≡ getD owners i 0 ⌝ }
+{
+    if i < SLICES {
+        return owners[i];
+    }
+    0
+}
+
+pub fn put_slice_owner(owners: [u16; SLICES], i: usize, x: u16) -> [u16; SLICES]
+    ensures { λ r. ⌜ r ≡ set owners i x ⌝ }
+{
+    let mut table = owners;
+    if i < SLICES {
+        table[i] = x;
+    }
+    table
+}
