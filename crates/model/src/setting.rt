@@ -19,9 +19,9 @@ pub struct Options {
 // A site, as a quota, is stored plus 1, or 0 for none; a profile's most is 0 where it is not loaded. nodes, gpus and jobs count those loaded.
 pub struct Setting {
     pub sites: [u8; NODES],
-    pub nodes: usize,
-    pub gpus: usize,
-    pub jobs: usize,
+    pub nodes: u8,
+    pub gpus: u8,
+    pub jobs: u8,
     pub quotas: [u64; TENANTS],
     pub mosts: [u8; PROFILES],
     pub options: Options,

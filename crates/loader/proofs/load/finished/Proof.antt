@@ -1,0 +1,26 @@
+-- `loader::load::finished` meets its contract.
+use borrow.Author.Needs.{needs}
+use Rattle.loader.specs.Load.{finished}
+use Rattle.loader.proofs.load.finished.Statement.{statement}
+use Rattle.loader.proofs.load.finished.Tie as tie
+
+is-accepted-requires : tie.Need-is-accepted-requires
+is-accepted-requires c κs = search needs
+
+plan-of-requires : tie.Need-plan-of-requires
+plan-of-requires c κs = search needs
+
+returns : tie.Need-returns
+unfolding finished
+returns c = rw (← c .before .before .is-accepted .ensures, c .before .if1 .taken, c .plan-of .ensures)
+
+refused-requires : tie.Need-refused-requires
+refused-requires c κs = search needs
+
+returns-2 : tie.Need-returns-2
+unfolding finished
+returns-2 c = rw (← c .before .before .is-accepted .ensures, c .before .if1 .left) (c .refused .ensures)
+
+pub finished-spec : {M : Type 1} → statement M
+finished-spec =
+    tie.close (tie.spec is-accepted-requires plan-of-requires returns refused-requires returns-2)
