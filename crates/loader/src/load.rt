@@ -134,7 +134,8 @@ fn finished(t: Turn) -> Loaded
 {
     let answer = t.answer;
     let tables = t.tables;
-    if is_accepted(answer) {
+    let accepted = is_accepted(answer);
+    if accepted {
         return Loaded {
             answer: answer,
             plan: plan_of(tables),

@@ -1,0 +1,146 @@
+//! The words of the command.
+
+use crate::admit::Admit;
+use crate::program::{Program, Show};
+use generate::Kind;
+
+/// What the command line asks for.
+pub struct Words {
+    pub names: [String; 2],
+    pub programs: [Program; 2],
+    pub file: Option<String>,
+    pub show: Show,
+    pub admit: Admit,
+    pub kind: Option<Kind>,
+    pub seed: u64,
+    pub traces: u64,
+    pub threads: usize,
+    pub reduce: bool,
+}
+
+pub fn usage() -> String {
+    "usage: judge A B [--traces N] [--seed S] [--kind K] [--details] [--events] \
+     [--domain | --ordered-domain | --without FLAG,.. | --all] [--threads N] [--no-reduce]
+       judge one A B FILE [--details] | judge reduce A B FILE [--details] [--without FLAG,..] | judge samples FOLDER
+       A, B: second, original, original-ordered, batch:PATH, each:PATH"
+        .to_string()
+}
+
+impl Words {
+    pub fn read(list: &[&str]) -> Result<Words, String> {
+        let [one, two, rest @ ..] = list else {
+            return Err(usage());
+        };
+        let programs = [Program::named(one)?, Program::named(two)?];
+        let threads = std::thread::available_parallelism().map_or(1, |n| n.get());
+        let mut words = Words {
+            names: [one.to_string(), two.to_string()],
+            programs,
+            file: None,
+            show: Show::default(),
+            admit: Admit::default(),
+            kind: None,
+            seed: 1,
+            traces: 10_000,
+            threads,
+            reduce: true,
+        };
+        let mut rest = rest.iter();
+        while let Some(word) = rest.next() {
+            words.take(word, &mut || {
+                rest.next()
+                    .copied()
+                    .ok_or_else(|| format!("{word} wants a value"))
+            })?;
+        }
+        words.settle()
+    }
+
+    fn take<'a>(
+        &mut self,
+        word: &str,
+        value: &mut dyn FnMut() -> Result<&'a str, String>,
+    ) -> Result<(), String> {
+        match word {
+            "--details" => self.show.details = true,
+            "--events" => {
+                self.show = Show {
+                    details: true,
+                    events: true,
+                }
+            }
+            "--domain" => self.admit = Admit::domain(),
+            "--ordered-domain" => self.admit = Admit::ordered_domain(),
+            "--all" => self.admit = Admit::default(),
+            "--without" => self.admit = Admit::without(value()?)?,
+            "--no-reduce" => self.reduce = false,
+            "--kind" => self.kind = Some(kind(value()?)?),
+            "--seed" => self.seed = whole(value()?)?,
+            "--traces" => self.traces = whole(value()?)?,
+            "--threads" => self.threads = whole(value()?)? as usize,
+            _ if word.starts_with("--") || self.file.is_some() => return Err(usage()),
+            _ => self.file = Some(word.to_string()),
+        }
+        Ok(())
+    }
+
+    /// The original is only asked for traces that load and are not refused, and cannot show its events.
+    fn settle(mut self) -> Result<Words, String> {
+        if self.programs.iter().any(Program::is_original) {
+            self.admit.accepted = true;
+            if self.show.events {
+                return Err("the original cannot show its events".to_string());
+            }
+        }
+        Ok(self)
+    }
+}
+
+fn whole(text: &str) -> Result<u64, String> {
+    text.parse()
+        .map_err(|_| format!("`{text}` is not a whole number"))
+}
+
+fn kind(name: &str) -> Result<Kind, String> {
+    Kind::named(name).ok_or_else(|| format!("no kind `{name}`"))
+}
+
+#[cfg(test)]
+mod tests {
+    use super::Words;
+
+    #[test]
+    fn words_are_taken_in_any_order() {
+        let words = Words::read(&[
+            "second",
+            "batch:x --y",
+            "--seed",
+            "7",
+            "--domain",
+            "--traces",
+            "9",
+            "--kind",
+            "mig",
+        ]);
+        let words = words.unwrap_or_else(|what| panic!("{what}"));
+        assert_eq!(
+            (words.seed, words.traces, words.kind),
+            (7, 9, Some(generate::Kind::Mig))
+        );
+        assert!(words.admit.accepted && words.admit.without == [true; 5]);
+    }
+
+    #[test]
+    fn wrong_words_are_told() {
+        for list in [
+            vec!["second"],
+            vec!["second", "third"],
+            vec!["second", "batch:"],
+            vec!["second", "second", "--seed"],
+            vec!["second", "second", "--kind", "x"],
+            vec!["second", "second", "--what"],
+        ] {
+            assert!(Words::read(&list).is_err(), "{list:?}");
+        }
+    }
+}

@@ -1,0 +1,13 @@
+//! The two derives of serde that the original names, expanding to nothing: a comparison writes no JSON.
+
+use proc_macro::TokenStream;
+
+#[proc_macro_derive(Serialize, attributes(serde))]
+pub fn serialize(_item: TokenStream) -> TokenStream {
+    TokenStream::new()
+}
+
+#[proc_macro_derive(Deserialize, attributes(serde))]
+pub fn deserialize(_item: TokenStream) -> TokenStream {
+    TokenStream::new()
+}
