@@ -1,0 +1,68 @@
+-- `choice::choose::choice_of` meets its contract.
+use mathlib.Core.Path.{sym, _∙_}
+use native.Mathlib.Omega.{arith}
+use Rattle.choice.specs.WhyCases.{gang-some, choice-gang, choice-flag, choice-network, choice-best, choice-first}
+use borrow.Author.Needs.{needs}
+use Rattle.choice.proofs.choose.choice_of.Statement.{statement}
+use Rattle.choice.proofs.choose.choice_of.Tie as tie
+
+cast-count : tie.Need-cast-count
+cast-count c = search needs
+
+cast-g : tie.Need-cast-g
+cast-g c = search needs
+
+is-gang-requires : tie.Need-is-gang-requires
+is-gang-requires c κs = search needs
+
+div-gang-choice : tie.Need-div-gang-choice
+div-gang-choice c = omega (arith, gang-some (c .before .before .before .before .args .ask) (sym (c .before .is-gang .ensures) ∙ c .if1 .taken))
+
+gang-choice-requires : tie.Need-gang-choice-requires
+gang-choice-requires c κs = search needs
+
+returns : tie.Need-returns
+returns c = c .gang-choice .ensures ∙ choice-gang _ _ _ (c .before .before .before .before .before .args .ask) _ (sym (c .before .before .is-gang .ensures) ∙ c .before .if1 .taken)
+
+group-choice-requires : tie.Need-group-choice-requires
+group-choice-requires c κs = search needs
+
+returns-2 : tie.Need-returns-2
+returns-2 c = c .group-choice .ensures ∙ choice-flag _ _ _ (c .before .before .before .before .before .before .args .ask) (sym (c .before .before .before .is-gang .ensures) ∙ c .before .before .if1 .left) _ (c .before .if2 .taken)
+
+group-choice-requires-2 : tie.Need-group-choice-requires-2
+group-choice-requires-2 c κs = search needs
+
+returns-3 : tie.Need-returns-3
+returns-3 c = c .group-choice2 .ensures ∙ choice-network _ _ _ (c .before .before .before .before .before .before .before .args .ask) (sym (c .before .before .before .before .is-gang .ensures) ∙ c .before .before .before .if1 .left) (c .before .before .if2 .left) _ (c .before .if3 .taken)
+
+best-fit-requires : tie.Need-best-fit-requires
+best-fit-requires c κs = search needs
+
+returns-4 : tie.Need-returns-4
+returns-4 c = rw (c .before .if4 .taken) (c .best-fit .ensures ∙ choice-best _ _ _ (c .before .before .before .before .before .before .before .before .args .ask) (sym (c .before .before .before .before .before .is-gang .ensures) ∙ c .before .before .before .before .if1 .left) (c .before .before .before .if2 .left) (c .before .before .if3 .left))
+
+first-fit-requires : tie.Need-first-fit-requires
+first-fit-requires c κs = search needs
+
+returns-5 : tie.Need-returns-5
+returns-5 c = rw (c .before .if4 .left) (c .first-fit .ensures ∙ choice-first _ _ _ (c .before .before .before .before .before .before .before .before .args .ask) (sym (c .before .before .before .before .before .is-gang .ensures) ∙ c .before .before .before .before .if1 .left) (c .before .before .before .if2 .left) (c .before .before .if3 .left))
+
+pub choice-of-spec : {M : Type 1} → statement M
+choice-of-spec =
+    tie.close
+    (tie.spec
+    cast-count
+    cast-g
+    is-gang-requires
+    div-gang-choice
+    gang-choice-requires
+    returns
+    group-choice-requires
+    returns-2
+    group-choice-requires-2
+    returns-3
+    best-fit-requires
+    returns-4
+    first-fit-requires
+    returns-5)

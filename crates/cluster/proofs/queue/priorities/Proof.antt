@@ -1,0 +1,64 @@
+-- `cluster::queue::priorities` meets its contract.
+use borrow.Author.Needs.{needs}
+use Rattle.cluster.specs.QueueLaws.{read-turn, read-end}
+use Rattle.cluster.specs.Queue.{priorityOf}
+use lib.ListN.{length, take, drop, length-set}
+use mathlib.Core.List.{map, _++_}
+use mathlib.Core.Path.{_≡_, refl, _∙_}
+use native.Mathlib.Omega.{arith}
+use Prim.Native.Nat.{_≤_, _-_}
+use Rattle.cluster.proofs.queue.priorities.Statement.{statement}
+use Rattle.cluster.proofs.queue.priorities.Tie as tie
+
+abbrev Inv-loop : tie.InvT-loop
+Inv-loop jobs numbers₀ i₀ numbers i = (i ≤ 128) × (length numbers ≡ 128) × (take i numbers ++ map priorityOf (drop i jobs) ≡ map priorityOf jobs)
+
+abbrev μ-loop : tie.MeasureT-loop
+μ-loop jobs numbers₀ i₀ numbers i = 128 - i
+
+loop-holds : tie.Need-loop-holds Inv-loop μ-loop
+loop-holds c = (omega arith, refl, refl)
+
+mul-priority-of : tie.Need-mul-priority-of Inv-loop μ-loop
+mul-priority-of c = search needs
+
+array-copy-out-priority-of : tie.Need-array-copy-out-priority-of Inv-loop μ-loop
+array-copy-out-priority-of c = search needs
+
+priority-of-requires : tie.Need-priority-of-requires Inv-loop μ-loop
+priority-of-requires c κs = search needs
+
+mul-numbers : tie.Need-mul-numbers Inv-loop μ-loop
+mul-numbers c = search needs
+
+array-write-numbers : tie.Need-array-write-numbers Inv-loop μ-loop
+array-write-numbers c = search needs
+
+add-i : tie.Need-add-i Inv-loop μ-loop
+add-i c = search needs
+
+loop-less : tie.Need-loop-less Inv-loop μ-loop
+loop-less c = omega arith
+
+loop-again : tie.Need-loop-again Inv-loop μ-loop
+loop-again c = (omega arith, simp length-set (omega arith), rw (c .priority-of .ensures) (read-turn priorityOf (c .before .before .before .before .args .t1) (c .before .before .before .loop .numbers) (c .before .before .before .loop .i) _ (omega arith) (omega arith) ∙ c .before .before .before .loop .inv .2))
+
+returns : tie.Need-returns Inv-loop μ-loop
+returns c = read-end priorityOf (c .before .before .args .t1) (c .before .loop .numbers) (c .before .loop .i) (omega arith) (omega arith) ∙ c .before .loop .inv .2
+
+pub priorities-spec : {M : Type 1} → statement M
+priorities-spec =
+    tie.close
+    (tie.spec
+    Inv-loop
+    μ-loop
+    loop-holds
+    mul-priority-of
+    array-copy-out-priority-of
+    priority-of-requires
+    mul-numbers
+    array-write-numbers
+    add-i
+    loop-less
+    loop-again
+    returns)

@@ -1,0 +1,22 @@
+-- `cluster::queue::sort_queue` meets its contract.
+use borrow.Author.Needs.{needs}
+use Rattle.cluster.specs.QueueLaws.{queue-numbers}
+use mathlib.Core.Path.{_∙_}
+use Rattle.cluster.proofs.queue.sort_queue.Statement.{statement}
+use Rattle.cluster.proofs.queue.sort_queue.Tie as tie
+
+priorities-requires : tie.Need-priorities-requires
+priorities-requires c κs = search needs
+
+arrivals-requires : tie.Need-arrivals-requires
+arrivals-requires c κs = search needs
+
+sort-front-requires : tie.Need-sort-front-requires
+sort-front-requires c κs = search needs
+
+returns : tie.Need-returns
+returns c = c .sort-front .ensures ∙ rw (c .before .arrivals .ensures, c .before .before .priorities .ensures) (queue-numbers (c .before .before .before .args .jobs) (c .before .before .before .args .queue) (c .before .before .before .args .n))
+
+pub sort-queue-spec : {M : Type 1} → statement M
+sort-queue-spec =
+    tie.close (tie.spec priorities-requires arrivals-requires sort-front-requires returns)

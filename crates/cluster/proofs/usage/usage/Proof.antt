@@ -1,0 +1,69 @@
+-- `cluster::usage::usage` meets its contract.
+use borrow.Author.Needs.{needs}
+use Rattle.cluster.specs.UsageSteps.{usage-turn, usage-end}
+use Rattle.cluster.specs.Usage.{chargeTo}
+use Rattle.laws.specs.Sums.{sumOver}
+use lib.ListN.{take}
+use mathlib.Core.Path.{_≡_, refl, _∙_}
+use native.Mathlib.Omega.{arith}
+use Prim.Native.Nat.{_≤_, _-_, _*_}
+use Rattle.cluster.proofs.usage.usage.Statement.{statement}
+use Rattle.cluster.proofs.usage.usage.Tie as tie
+
+abbrev Inv-loop : tie.InvT-loop
+Inv-loop n tenant jobs m sum₀ i₀ sum i = (i ≤ m) × (m ≤ 128) × (sum ≤ 4294967296 * i) × (sum ≡ sumOver (chargeTo tenant) (take i jobs))
+
+abbrev μ-loop : tie.MeasureT-loop
+μ-loop n tenant jobs m sum₀ i₀ sum i = m - i
+
+lesser-requires : tie.Need-lesser-requires Inv-loop μ-loop
+lesser-requires c κs = search needs
+
+loop-holds : tie.Need-loop-holds Inv-loop μ-loop
+unfolding sumOver
+loop-holds c = (omega arith, omega arith, omega arith, refl)
+
+mul-charge-to : tie.Need-mul-charge-to Inv-loop μ-loop
+mul-charge-to c = search needs
+
+array-copy-out-charge-to : tie.Need-array-copy-out-charge-to Inv-loop μ-loop
+array-copy-out-charge-to c = search needs
+
+charge-to-requires : tie.Need-charge-to-requires Inv-loop μ-loop
+charge-to-requires c κs = search needs
+
+cast-sum : tie.Need-cast-sum Inv-loop μ-loop
+cast-sum c = search needs
+
+add-sum : tie.Need-add-sum Inv-loop μ-loop
+add-sum c = search needs
+
+add-i : tie.Need-add-i Inv-loop μ-loop
+add-i c = search needs
+
+loop-less : tie.Need-loop-less Inv-loop μ-loop
+loop-less c = omega arith
+
+loop-again : tie.Need-loop-again Inv-loop μ-loop
+loop-again c = (omega arith, omega arith, omega arith, usage-turn (c .before .before .before .before .before .args .t1) (c .before .before .before .before .before .args .tenant) (c .before .before .before .loop .i) (c .before .before .before .loop .sum) (c .charge-to .result) _ (omega arith) (c .before .before .before .loop .inv .3) (c .charge-to .ensures))
+
+returns : tie.Need-returns Inv-loop μ-loop
+returns c = c .before .loop .inv .3 ∙ usage-end (c .before .before .before .args .t1) (c .before .before .before .args .n) (c .before .before .before .args .tenant) (c .before .before .lesser .result) (c .before .loop .i) (c .before .before .lesser .ensures) (omega arith) (omega arith)
+
+pub usage-spec : {M : Type 1} → statement M
+usage-spec =
+    tie.close
+    (tie.spec
+    Inv-loop
+    μ-loop
+    lesser-requires
+    loop-holds
+    mul-charge-to
+    array-copy-out-charge-to
+    charge-to-requires
+    cast-sum
+    add-sum
+    add-i
+    loop-less
+    loop-again
+    returns)

@@ -1,0 +1,11 @@
+-- The definitions and laws of the cluster.
+pub mod Gpus
+pub mod GpusLaws
+pub mod Order
+pub mod OrderSteps
+pub mod OrderLaws
+pub mod Queue
+pub mod QueueLaws
+pub mod Usage
+pub mod UsageSteps
+pub mod UsageLaws

@@ -1,0 +1,70 @@
+-- `eligible::keys::node_keys` meets its contract.
+use mathlib.Core.Path.{_≡_}
+use mathlib.Core.List.{map}
+use Prim.Native.Nat.{_-_, _≤_}
+use native.Mathlib.Omega.{arith}
+use lib.ListN.{take}
+use Rattle.laws.specs.Lists.{pad}
+use Rattle.eligible.specs.Keys.{nodeOf, nodeKeys}
+use Rattle.eligible.specs.Turns.{map-turn, map-done}
+use borrow.Author.Needs.{needs}
+use Rattle.eligible.proofs.keys.node_keys.Statement.{statement}
+use Rattle.eligible.proofs.keys.node_keys.Tie as tie
+
+abbrev Inv-loop : tie.InvT-loop
+Inv-loop gpus keys₀ i₀ keys i = (i ≤ 128) × (keys ≡ pad 128 0 (map nodeOf (take i gpus)))
+
+abbrev μ-loop : tie.MeasureT-loop
+μ-loop gpus keys₀ i₀ keys i = 128 - i
+
+no-ids-requires : tie.Need-no-ids-requires Inv-loop μ-loop
+no-ids-requires c κs = search needs
+
+loop-holds : tie.Need-loop-holds Inv-loop μ-loop
+loop-holds c = (omega arith, c .no-ids .ensures)
+
+mul-g : tie.Need-mul-g Inv-loop μ-loop
+mul-g c = search needs
+
+array-copy-out-g : tie.Need-array-copy-out-g Inv-loop μ-loop
+array-copy-out-g c = search needs
+
+cast-keys : tie.Need-cast-keys Inv-loop μ-loop
+cast-keys c = search needs
+
+mul-keys : tie.Need-mul-keys Inv-loop μ-loop
+mul-keys c = search needs
+
+array-write-keys : tie.Need-array-write-keys Inv-loop μ-loop
+array-write-keys c = search needs
+
+add-i : tie.Need-add-i Inv-loop μ-loop
+add-i c = search needs
+
+loop-less : tie.Need-loop-less Inv-loop μ-loop
+loop-less c = omega arith
+
+loop-again : tie.Need-loop-again Inv-loop μ-loop
+loop-again c = (omega arith, map-turn nodeOf (c .before .before .before .loop .keys) (c .before .before .before .before .before .args .t1) (c .before .before .before .loop .i) _ (omega arith) (omega arith) (c .before .before .before .loop .inv .1))
+
+returns : tie.Need-returns Inv-loop μ-loop
+unfolding nodeKeys
+returns c = map-done nodeOf (c .before .loop .keys) (c .before .before .before .args .t1) (c .before .loop .i) (search needs) (omega arith) (c .before .loop .inv .1)
+
+pub node-keys-spec : {M : Type 1} → statement M
+node-keys-spec =
+    tie.close
+    (tie.spec
+    Inv-loop
+    μ-loop
+    no-ids-requires
+    loop-holds
+    mul-g
+    array-copy-out-g
+    cast-keys
+    mul-keys
+    array-write-keys
+    add-i
+    loop-less
+    loop-again
+    returns)

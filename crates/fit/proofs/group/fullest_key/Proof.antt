@@ -1,0 +1,60 @@
+-- `fit::group::fullest_key` meets its contract.
+use mathlib.Core.Path.{_≡_, refl, sym, _∙_}
+use mathlib.Core.Logic.{⊎-elim}
+use Prim.Native.Nat.{_-_, _≤_, _<_}
+use native.Mathlib.Omega.{arith}
+use Rattle.laws.specs.Greatest.{argmax, argmax-take, argmax-keep, argmax-end}
+use Rattle.fit.specs.Group.{counted, fullest}
+use borrow.Author.Needs.{needs}
+use Rattle.fit.proofs.group.fullest_key.Statement.{statement}
+use Rattle.fit.proofs.group.fullest_key.Tie as tie
+
+abbrev Inv-loop : tie.InvT-loop
+Inv-loop counts b₀ i₀ b i = (i ≤ 257) × (b < 257) × (argmax (counted counts) (257 - i) i b ≡ fullest counts)
+
+abbrev μ-loop : tie.MeasureT-loop
+μ-loop counts b₀ i₀ b i = 257 - i
+
+loop-holds : tie.Need-loop-holds Inv-loop μ-loop
+unfolding fullest
+loop-holds c = (omega arith, omega arith, refl)
+
+counted-at-requires : tie.Need-counted-at-requires Inv-loop μ-loop
+counted-at-requires c κs = search needs
+
+counted-at-requires-2 : tie.Need-counted-at-requires-2 Inv-loop μ-loop
+counted-at-requires-2 c κs = search needs
+
+add-i : tie.Need-add-i Inv-loop μ-loop
+add-i c = search needs
+
+loop-less : tie.Need-loop-less Inv-loop μ-loop
+loop-less c = omega arith
+
+loop-again : tie.Need-loop-again Inv-loop μ-loop
+loop-again c =
+    ⊎-elim
+    (λ w. (omega arith, omega arith, rw (w .1) (sym (argmax-take (counted (c .before .before .before .before .before .args .counts)) 257 (c .before .before .before .before .loop .i) (c .before .before .before .before .loop .b) (omega arith) (omega arith)) ∙ c .before .before .before .before .loop .inv .2)))
+    (λ w. (omega arith, omega arith, rw (w .1) (sym (argmax-keep (counted (c .before .before .before .before .before .args .counts)) 257 (c .before .before .before .before .loop .i) (c .before .before .before .before .loop .b) (omega arith) (omega arith)) ∙ c .before .before .before .before .loop .inv .2)))
+    (c .if1 .came)
+
+cast-result : tie.Need-cast-result Inv-loop μ-loop
+cast-result c = search needs
+
+returns : tie.Need-returns Inv-loop μ-loop
+returns c = sym (argmax-end (counted (c .before .before .args .counts)) 257 (c .before .loop .i) (c .before .loop .b) (omega arith)) ∙ c .before .loop .inv .2
+
+pub fullest-key-spec : {M : Type 1} → statement M
+fullest-key-spec =
+    tie.close
+    (tie.spec
+    Inv-loop
+    μ-loop
+    loop-holds
+    counted-at-requires
+    counted-at-requires-2
+    add-i
+    loop-less
+    loop-again
+    cast-result
+    returns)

@@ -1,0 +1,10 @@
+-- The definitions of first fit, best fit and the choice of one group.
+pub mod Order
+pub mod OrderTurns
+pub mod First
+pub mod Group
+pub mod Best
+pub mod Cases
+pub mod Right
+pub mod GroupLaws
+pub mod BestLaws

@@ -1,0 +1,51 @@
+// The choice of one group over all nodes.
+
+use crate::first::Choice;
+use crate::first::take_these;
+use eligible::chosen::Chosen;
+use eligible::chosen::KEYS;
+use eligible::chosen::first_of;
+use eligible::chosen::tally;
+use eligible::chosen::with_key;
+use model::sizes::GPUS;
+ghost use mathlib.Core.Path.{_≡_};
+ghost use Rattle.eligible.specs.Chosen.{listOf};
+ghost use Rattle.fit.specs.Group.{counted, fullest, groupChoice};
+
+// What a tally says of a key.
+pub fn counted_at(counts: [u16; KEYS], k: usize) -> usize
+    ensures { λ r. ⌜ r ≡ counted counts k ⌝ }
+{
+    if k < KEYS {
+        return counts[k] as usize;
+    }
+    0
+}
+
+// The key that is counted most often, the first on a tie.
+pub fn fullest_key(counts: [u16; KEYS]) -> u16
+    ensures { λ r. ⌜ r ≡ fullest counts ⌝ }
+{
+    let mut b: usize = 0;
+    let mut i: usize = 0;
+    while i < KEYS {
+        if counted_at(counts, b) < counted_at(counts, i) {
+            b = i;
+        }
+        i = i + 1;
+    }
+    b as u16
+}
+
+// The first count of the fullest group if it has as many; else first fit, with a penalty.
+pub fn group_choice(e: Chosen, groups: [u16; GPUS], count: usize) -> Choice
+    ensures { λ r. ⌜ r ≡ groupChoice groups (listOf e) count ⌝ }
+{
+    let key = fullest_key(tally(e, groups));
+    let same = with_key(e, groups, key);
+    let n = same.count;
+    if count <= n {
+        return take_these(first_of(same, count), false);
+    }
+    take_these(first_of(e, count), true)
+}

@@ -1,0 +1,2 @@
+-- The definitions of the changes of one job.
+pub mod Life

@@ -1,0 +1,43 @@
+-- `mig::allocate::cut_for` meets its contract.
+use borrow.Author.Needs.{needs}
+use Rattle.mig.specs.Allocate.{cutFor}
+use Rattle.mig.proofs.allocate.cut_for.Statement.{statement}
+use Rattle.mig.proofs.allocate.cut_for.Tie as tie
+
+first-idle-requires : tie.Need-first-idle-requires
+first-idle-requires c κs = search needs
+
+free-elsewhere-requires : tie.Need-free-elsewhere-requires
+free-elsewhere-requires c κs = search needs
+
+gpu-at-requires : tie.Need-gpu-at-requires
+gpu-at-requires c κs = search needs
+
+new-slices-requires : tie.Need-new-slices-requires
+new-slices-requires c κs = search needs
+
+wide-requires : tie.Need-wide-requires
+wide-requires c κs = search needs
+
+give-in-order-requires : tie.Need-give-in-order-requires
+give-in-order-requires c κs = search needs
+
+put-gpu-requires : tie.Need-put-gpu-requires
+put-gpu-requires c κs = search needs
+
+returns : tie.Need-returns
+unfolding cutFor
+returns c = cc
+
+pub cut-for-spec : {M : Type 1} → statement M
+cut-for-spec =
+    tie.close
+    (tie.spec
+    first-idle-requires
+    free-elsewhere-requires
+    gpu-at-requires
+    new-slices-requires
+    wide-requires
+    give-in-order-requires
+    put-gpu-requires
+    returns)

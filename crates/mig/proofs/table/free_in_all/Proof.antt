@@ -1,0 +1,65 @@
+-- `mig::table::free_in_all` meets its contract.
+use borrow.Author.Needs.{needs}
+use Rattle.mig.specs.TableSteps.{free-count, free-turn, free-end}
+use Rattle.mig.specs.Slices.{freeSlices}
+use Rattle.laws.specs.Sums.{sumOver}
+use lib.ListN.{take}
+use mathlib.Core.Path.{_≡_, refl, _∙_}
+use native.Mathlib.Omega.{arith}
+use Prim.Native.Nat.{_≤_, _-_, _*_}
+use Rattle.mig.proofs.table.free_in_all.Statement.{statement}
+use Rattle.mig.proofs.table.free_in_all.Tie as tie
+
+abbrev Inv-loop : tie.InvT-loop
+Inv-loop n profile gpus m sum₀ i₀ sum i = (i ≤ m) × (m ≤ 128) × (sum ≤ 7 * i) × (sum ≡ sumOver (λ g. freeSlices g profile) (take i gpus))
+
+abbrev μ-loop : tie.MeasureT-loop
+μ-loop n profile gpus m sum₀ i₀ sum i = m - i
+
+lesser-requires : tie.Need-lesser-requires Inv-loop μ-loop
+lesser-requires c κs = search needs
+
+loop-holds : tie.Need-loop-holds Inv-loop μ-loop
+unfolding sumOver
+loop-holds c = (omega arith, omega arith, omega arith, refl)
+
+mul-free-slices : tie.Need-mul-free-slices Inv-loop μ-loop
+mul-free-slices c = search needs
+
+array-copy-out-free-slices : tie.Need-array-copy-out-free-slices Inv-loop μ-loop
+array-copy-out-free-slices c = search needs
+
+free-slices-requires : tie.Need-free-slices-requires Inv-loop μ-loop
+free-slices-requires c κs = search needs
+
+add-sum : tie.Need-add-sum Inv-loop μ-loop
+add-sum c = let h : c .free-slices .result ≤ 7 = free-count _ _ (c .free-slices .ensures) in record { fits = omega arith }
+
+add-i : tie.Need-add-i Inv-loop μ-loop
+add-i c = search needs
+
+loop-less : tie.Need-loop-less Inv-loop μ-loop
+loop-less c = omega arith
+
+loop-again : tie.Need-loop-again Inv-loop μ-loop
+loop-again c = let h : c .free-slices .result ≤ 7 = free-count _ _ (c .free-slices .ensures) in (omega arith, omega arith, omega arith, free-turn (c .before .before .before .before .before .args .t1) (c .before .before .before .before .before .args .profile) (c .before .before .before .loop .i) (c .before .before .before .loop .sum) (c .free-slices .result) _ (omega arith) (c .before .before .before .loop .inv .3) (c .free-slices .ensures))
+
+returns : tie.Need-returns Inv-loop μ-loop
+returns c = c .before .loop .inv .3 ∙ free-end (c .before .before .before .args .t1) (c .before .before .before .args .n) (c .before .before .before .args .profile) (c .before .before .lesser .result) (c .before .loop .i) (c .before .before .lesser .ensures) (omega arith) (omega arith)
+
+pub free-in-all-spec : {M : Type 1} → statement M
+free-in-all-spec =
+    tie.close
+    (tie.spec
+    Inv-loop
+    μ-loop
+    lesser-requires
+    loop-holds
+    mul-free-slices
+    array-copy-out-free-slices
+    free-slices-requires
+    add-sum
+    add-i
+    loop-less
+    loop-again
+    returns)

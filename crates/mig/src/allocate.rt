@@ -1,0 +1,113 @@
+// The slices that a MIG job gets: free ones, or a GPU cut anew.
+
+use crate::slices::cut_anew;
+use crate::slices::free_slices;
+use crate::slices::give_slices;
+use crate::small::both;
+use crate::small::either;
+use crate::small::lesser;
+use crate::small::minus;
+use crate::small::wide;
+use crate::table::first_idle;
+use crate::table::free_in_all;
+use crate::table::give_in_order;
+use model::gpu::Gpu;
+use model::gpu::gpu_at;
+use model::gpu::put_gpu;
+use model::sizes::GPUS;
+ghost use mathlib.Core.Path.{_≡_};
+ghost use Rattle.mig.specs.Allocate.{enoughFree, cutHelps, slicesPlaceable, freeElsewhere, newSlices, cutFor, slicesAllocated};
+
+// The table after, whether the job has its slices, and whether a GPU was cut for it.
+pub struct Slices {
+    pub gpus: [Gpu; GPUS],
+    pub placed: bool,
+    pub cut: bool,
+}
+
+fn enough_free(gpus: [Gpu; GPUS], n: usize, profile: u8, want: u8) -> bool
+    ensures { λ r. ⌜ r ≡ enoughFree gpus n profile want ⌝ }
+{
+    wide(want) <= free_in_all(gpus, n, profile)
+}
+
+fn cut_helps(gpus: [Gpu; GPUS], n: usize, most: u8, want: u8) -> bool
+    ensures { λ r. ⌜ r ≡ cutHelps gpus n most want ⌝ }
+{
+    both(want <= most, first_idle(gpus, n) < lesser(n, GPUS))
+}
+
+pub fn slices_placeable(gpus: [Gpu; GPUS], n: usize, profile: u8, most: u8, want: u8) -> bool
+    ensures { λ r. ⌜ r ≡ slicesPlaceable gpus n profile most want ⌝ }
+{
+    either(
+        enough_free(gpus, n, profile, want),
+        cut_helps(gpus, n, most, want),
+    )
+}
+
+// The free slices of the profile on the GPUs but one.
+fn free_elsewhere(gpus: [Gpu; GPUS], n: usize, profile: u8, at: usize) -> usize
+    ensures { λ r. ⌜ r ≡ freeElsewhere gpus n profile at ⌝ }
+{
+    minus(
+        free_in_all(gpus, n, profile),
+        free_slices(gpu_at(gpus, at), profile),
+    )
+}
+
+// The GPU cut anew, with those of its new slices given that the other GPUs leave wanting.
+fn new_slices(g: Gpu, profile: u8, want: u8, elsewhere: usize, owner: u16) -> Gpu
+    ensures { λ r. ⌜ r ≡ newSlices g profile want elsewhere owner ⌝ }
+{
+    give_slices(
+        cut_anew(g, profile, want),
+        profile,
+        minus(wide(want), elsewhere),
+        owner,
+    )
+}
+
+// The first idle GPU cut anew; free slices on the others first, then new ones.
+fn cut_for(gpus: [Gpu; GPUS], n: usize, profile: u8, want: u8, owner: u16) -> [Gpu; GPUS]
+    ensures { λ r. ⌜ r ≡ cutFor gpus n profile want owner ⌝ }
+{
+    let at = first_idle(gpus, n);
+    let elsewhere = free_elsewhere(gpus, n, profile, at);
+    let g = new_slices(gpu_at(gpus, at), profile, want, elsewhere, owner);
+    let table = give_in_order(gpus, n, profile, wide(want), owner, at);
+    put_gpu(table, at, g)
+}
+
+pub fn allocate_slices(
+    gpus: [Gpu; GPUS],
+    n: usize,
+    profile: u8,
+    most: u8,
+    want: u8,
+    owner: u16,
+) -> Slices
+    ensures { λ r. ⌜ r ≡ slicesAllocated gpus n profile most want owner ⌝ }
+{
+    if enough_free(gpus, n, profile, want) {
+        let given = give_in_order(gpus, n, profile, wide(want), owner, GPUS);
+        return Slices {
+            gpus: given,
+            placed: true,
+            cut: false,
+        };
+    }
+    if cut_helps(gpus, n, most, want) {
+        let given = cut_for(gpus, n, profile, want, owner);
+        return Slices {
+            gpus: given,
+            placed: true,
+            cut: true,
+        };
+    }
+    Slices {
+        gpus: gpus,
+        placed: false,
+        cut: false,
+    }
+}

@@ -1,0 +1,7 @@
+// MIG: cutting GPUs into slices, and giving slices to jobs.
+
+pub mod allocate;
+pub mod owner;
+pub mod slices;
+pub mod small;
+pub mod table;

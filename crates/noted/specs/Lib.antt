@@ -1,0 +1,2 @@
+-- The definitions of the running totals' changes.
+pub mod Noted

@@ -1,0 +1,2 @@
+-- The definitions of the public face.
+pub mod Question

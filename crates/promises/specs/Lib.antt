@@ -1,0 +1,12 @@
+-- The theorems over the definitions that the contracts cite.
+pub mod FormLaws
+pub mod FoundLaws
+pub mod RecordFormLaws
+pub mod RefusedLaws
+pub mod RunLaws
+pub mod DecidedLaws
+pub mod ListedLaws
+pub mod NothingDroppedLaws
+pub mod LoadedLaws
+pub mod TraceFormLaws
+pub mod RefusalLaws

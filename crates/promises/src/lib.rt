@@ -1,0 +1,1 @@
+// The theorems; all of them stand in specs/.

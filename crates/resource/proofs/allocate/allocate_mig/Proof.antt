@@ -1,0 +1,31 @@
+-- `resource::allocate::allocate_mig` meets its contract.
+use borrow.Author.Needs.{needs}
+use Rattle.resource.specs.Allocate.{slicesGot}
+use Rattle.resource.proofs.allocate.allocate_mig.Statement.{statement}
+use Rattle.resource.proofs.allocate.allocate_mig.Tie as tie
+
+wide-less-requires : tie.Need-wide-less-requires
+wide-less-requires c κs = search needs
+
+most-at-requires : tie.Need-most-at-requires
+most-at-requires c κs = search needs
+
+cast-allocate-slices : tie.Need-cast-allocate-slices
+cast-allocate-slices c = search needs
+
+allocate-slices-requires : tie.Need-allocate-slices-requires
+allocate-slices-requires c κs = search needs
+
+returns : tie.Need-returns
+unfolding slicesGot
+returns c = rw (c .before .allocate-slices .ensures, c .before .before .before .most-at .ensures, c .before .before .before .before .wide-less .ensures)
+
+pub allocate-mig-spec : {M : Type 1} → statement M
+allocate-mig-spec =
+    tie.close
+    (tie.spec
+    wide-less-requires
+    most-at-requires
+    cast-allocate-slices
+    allocate-slices-requires
+    returns)

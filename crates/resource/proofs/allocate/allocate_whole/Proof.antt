@@ -1,0 +1,22 @@
+-- `resource::allocate::allocate_whole` meets its contract.
+use borrow.Author.Needs.{needs}
+use Rattle.resource.specs.Allocate.{wholeAllocated}
+use Rattle.resource.proofs.allocate.allocate_whole.Statement.{statement}
+use Rattle.resource.proofs.allocate.allocate_whole.Tie as tie
+
+cast-choose-gpus : tie.Need-cast-choose-gpus
+cast-choose-gpus c = search needs
+
+choose-gpus-requires : tie.Need-choose-gpus-requires
+choose-gpus-requires c κs = search needs
+
+give-gpus-requires : tie.Need-give-gpus-requires
+give-gpus-requires c κs = search needs
+
+returns : tie.Need-returns
+unfolding wholeAllocated
+returns c = rw (c .give-gpus .ensures, c .before .before .before .choose-gpus .ensures)
+
+pub allocate-whole-spec : {M : Type 1} → statement M
+allocate-whole-spec =
+    tie.close (tie.spec cast-choose-gpus choose-gpus-requires give-gpus-requires returns)

@@ -1,0 +1,6 @@
+-- The definitions of placing.
+pub mod Quota
+pub mod Cause
+pub mod Allocate
+pub mod AllocateLaws
+pub mod Examples

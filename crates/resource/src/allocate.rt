@@ -1,0 +1,99 @@
+// Allocation: which GPUs or slices a placeable job gets, and the table with them owned.
+
+use crate::cause::is_placeable;
+use choice::choose::choose_gpus;
+use cluster::gpus::give_gpus;
+use mig::allocate::allocate_slices;
+use model::gpu::Gpu;
+use model::job::Job;
+use model::setting::Setting;
+use model::setting::most_at;
+use model::sizes::GPUS;
+use model::sizes::JOBS;
+ghost use mathlib.Core.Path.{_≡_};
+ghost use Prim.Native.Nat.{_-_};
+ghost use Rattle.resource.specs.Allocate.{wholeAllocated, slicesGot, allocated};
+
+// cut: a GPU was cut anew for the job; penalised: its GPUs are not of one group where that was wanted.
+pub struct Allocation {
+    pub gpus: [Gpu; GPUS],
+    pub placed: bool,
+    pub cut: bool,
+    pub penalised: bool,
+}
+
+fn allocate_whole(setting: Setting, gpus: [Gpu; GPUS], j: Job, owner: u16) -> Allocation
+    ensures { λ r. ⌜ r ≡ wholeAllocated setting gpus j owner ⌝ }
+{
+    let ask = j.ask;
+    let sites = setting.sites;
+    let options = setting.options;
+    let choice = choose_gpus(gpus, setting.gpus as usize, sites, ask, options.best);
+    let chosen = choice.chosen;
+    let ids = chosen.ids;
+    let after = give_gpus(gpus, ids, chosen.count, owner);
+    Allocation {
+        gpus: after,
+        placed: true,
+        cut: false,
+        penalised: choice.penalised,
+    }
+}
+
+fn allocate_mig(setting: Setting, gpus: [Gpu; GPUS], j: Job, owner: u16) -> Allocation
+    ensures { λ r. ⌜ r ≡ slicesGot setting gpus j owner ⌝ }
+{
+    let ask = j.ask;
+    let mosts = setting.mosts;
+    let most = most_at(mosts, wide_less(ask.profile));
+    let got = allocate_slices(
+        gpus,
+        setting.gpus as usize,
+        ask.profile,
+        most,
+        ask.slices,
+        owner,
+    );
+    let after = got.gpus;
+    Allocation {
+        gpus: after,
+        placed: true,
+        cut: got.cut,
+        penalised: false,
+    }
+}
+
+// The number behind a profile that is kept plus 1.
+fn wide_less(profile: u8) -> usize
+    ensures { λ r. ⌜ r ≡ profile - 1 ⌝ }
+{
+    if profile == 0 {
+        return 0;
+    }
+    (profile - 1) as usize
+}
+
+// A job that is not placeable gets nothing, and the table stays as it was.
+pub fn allocate(
+    setting: Setting,
+    gpus: [Gpu; GPUS],
+    jobs: [Job; JOBS],
+    j: Job,
+    owner: u16,
+) -> Allocation
+    ensures { λ r. ⌜ r ≡ allocated setting gpus jobs j owner ⌝ }
+{
+    if is_placeable(setting, gpus, jobs, j) {
+        let ask = j.ask;
+        if ask.profile == 0 {
+            return allocate_whole(setting, gpus, j, owner);
+        }
+        return allocate_mig(setting, gpus, j, owner);
+    }
+    Allocation {
+        gpus: gpus,
+        placed: false,
+        cut: false,
+        penalised: false,
+    }
+}

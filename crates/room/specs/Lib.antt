@@ -1,0 +1,3 @@
+-- The definitions of the event room.
+pub mod Room
+pub mod RoomLaws

@@ -1,0 +1,103 @@
+// The event room: 1,152 entries; the least event, taking one and adding one.
+
+use model::event::Event;
+use model::event::EventKind;
+use model::event::empty_event;
+use model::event::put_event;
+use model::number::bits_of;
+use model::sizes::EVENTS;
+ghost use mathlib.Core.Path.{_≡_};
+ghost use Rattle.laws.specs.Choice.{pick};
+ghost use Rattle.room.specs.Room.{used, earlier, ahead, least, firstFree, added, taken};
+
+pub fn is_used(e: Event) -> bool
+    ensures { λ r. ⌜ r ≡ used e ⌝ }
+{
+    let kind = e.kind;
+    match kind {
+        EventKind::Empty => false,
+        EventKind::Arrival => true,
+        EventKind::Completion => true,
+        EventKind::Timeout => true,
+    }
+}
+
+// Less by time, then by insertion number.
+fn is_earlier(a: Event, b: Event) -> bool
+    ensures { λ r. ⌜ r ≡ earlier a b ⌝ }
+{
+    let x = bits_of(a.time);
+    let y = bits_of(b.time);
+    if x < y {
+        return true;
+    }
+    if y < x {
+        return false;
+    }
+    a.number < b.number
+}
+
+// An event is ahead of an empty entry, and of an event that it is earlier than.
+fn is_ahead(a: Event, b: Event) -> bool
+    ensures { λ r. ⌜ r ≡ ahead a b ⌝ }
+{
+    if is_used(a) {
+        if is_used(b) {
+            return is_earlier(a, b);
+        }
+        return true;
+    }
+    false
+}
+
+// The entry of the one that is ahead, i for a, or best for b.
+fn better(a: Event, b: Event, i: usize, best: usize) -> usize
+    ensures { λ r. ⌜ r ≡ pick (ahead a b) i best ⌝ }
+{
+    if is_ahead(a, b) {
+        return i;
+    }
+    best
+}
+
+// The entry of the least event; some empty entry where there is no event.
+pub fn least_event(events: [Event; EVENTS]) -> usize
+    ensures { λ r. ⌜ r ≡ least events ⌝ }
+{
+    let mut best: usize = 0;
+    let mut i: usize = 1;
+    while i < EVENTS {
+        best = better(events[i], events[best], i, best);
+        i = i + 1;
+    }
+    best
+}
+
+// The first entry that holds no event, or 1,152.
+fn first_free(events: [Event; EVENTS]) -> usize
+    ensures { λ r. ⌜ r ≡ firstFree events ⌝ }
+{
+    let mut i: usize = 0;
+    while i < EVENTS {
+        if is_used(events[i]) {
+            i = i + 1;
+        } else {
+            return i;
+        }
+    }
+    i
+}
+
+// With no entry free the room stays as it is.
+pub fn add_event(events: [Event; EVENTS], e: Event) -> [Event; EVENTS]
+    ensures { λ r. ⌜ r ≡ added events e ⌝ }
+{
+    let i = first_free(events);
+    put_event(events, i, e)
+}
+
+pub fn take_event(events: [Event; EVENTS], i: usize) -> [Event; EVENTS]
+    ensures { λ r. ⌜ r ≡ taken events i ⌝ }
+{
+    put_event(events, i, empty_event())
+}
