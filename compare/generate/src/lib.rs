@@ -41,3 +41,14 @@ pub fn any(seed: u64) -> (Kind, Vec<u8>) {
     }
     (Kind::Mixed, trace(Kind::Mixed, seed))
 }
+
+/// The same where traces are only loaded: most are damaged, and many fill a table.
+pub fn any_to_load(seed: u64) -> (Kind, Vec<u8>) {
+    // apart from the draws of the trace itself
+    let mut random = Random::new(seed.rotate_left(32));
+    match random.range(0, 9) {
+        0..=5 => (Kind::Damaged, trace(Kind::Damaged, seed)),
+        6 => (Kind::Limits, trace(Kind::Limits, seed)),
+        _ => any(seed),
+    }
+}

@@ -121,6 +121,7 @@ impl Contest {
         let seed = generate::seed_of(self.seed, number);
         match self.kind {
             Some(kind) => (kind, generate::trace(kind, seed)),
+            None if self.show.load => generate::any_to_load(seed),
             None => generate::any(seed),
         }
     }

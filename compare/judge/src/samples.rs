@@ -74,7 +74,7 @@ fn same(trace: &[u8], expected: &str, program: &Program) -> Result<(), String> {
         trace,
         Show {
             details: true,
-            events: false,
+            ..Show::default()
         },
     );
     let mut lines = detailed.lines();

@@ -19,7 +19,7 @@ pub struct Words {
 }
 
 pub fn usage() -> String {
-    "usage: judge A B [--traces N] [--seed S] [--kind K] [--details] [--events] \
+    "usage: judge A B [--traces N] [--seed S] [--kind K] [--details] [--events] [--load] \
      [--domain | --ordered-domain | --without FLAG,.. | --all] [--threads N] [--no-reduce]
        judge one A B FILE [--details] | judge reduce A B FILE [--details] [--without FLAG,..] | judge samples FOLDER
        A, B: second, original, original-ordered, batch:PATH, each:PATH"
@@ -64,11 +64,10 @@ impl Words {
         match word {
             "--details" => self.show.details = true,
             "--events" => {
-                self.show = Show {
-                    details: true,
-                    events: true,
-                }
+                self.show.details = true;
+                self.show.events = true;
             }
+            "--load" => self.show.load = true,
             "--domain" => self.admit = Admit::domain(),
             "--ordered-domain" => self.admit = Admit::ordered_domain(),
             "--all" => self.admit = Admit::default(),
@@ -84,12 +83,15 @@ impl Words {
         Ok(())
     }
 
-    /// The original is only asked for traces that load and are not refused, and cannot show its events.
+    /// The original is only asked for traces that load and are not refused, and cannot show its events or a load alone.
     fn settle(mut self) -> Result<Words, String> {
         if self.programs.iter().any(Program::is_original) {
             self.admit.accepted = true;
             if self.show.events {
                 return Err("the original cannot show its events".to_string());
+            }
+            if self.show.load {
+                return Err("the original cannot show a load alone".to_string());
             }
         }
         Ok(self)

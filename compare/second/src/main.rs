@@ -4,17 +4,19 @@ use std::io::{self, Read, Write};
 use std::process::ExitCode;
 
 use second::trace::TRACE_BYTES;
-use second::{run, Show};
+use second::{run, show_load, Show};
 
-const USAGE: &str = "usage: second [--details] [--events] [--batch] < trace";
+const USAGE: &str = "usage: second [--details] [--events] [--load] [--batch] < trace";
 
 fn main() -> ExitCode {
     let mut show = Show::default();
     let mut batch = false;
+    let mut load = false;
     for word in std::env::args_os().skip(1) {
         match word.to_str() {
             Some("--details") => show.details = true,
             Some("--events") => show.events = true,
+            Some("--load") => load = true,
             Some("--batch") => batch = true,
             _ => {
                 eprintln!("{USAGE}");
@@ -22,7 +24,14 @@ fn main() -> ExitCode {
             }
         }
     }
-    let done = if batch { many(show) } else { one(show) };
+    let answer = |trace: &[u8]| {
+        if load {
+            show_load(trace)
+        } else {
+            run(trace, show)
+        }
+    };
+    let done = if batch { many(answer) } else { one(answer) };
     match done {
         Ok(()) => ExitCode::SUCCESS,
         Err(error) => {
@@ -33,17 +42,17 @@ fn main() -> ExitCode {
 }
 
 /// One byte over the limit is enough to refuse by, however many follow.
-fn one(show: Show) -> io::Result<()> {
+fn one(answer: impl Fn(&[u8]) -> String) -> io::Result<()> {
     let mut trace = Vec::new();
     io::stdin()
         .lock()
         .take(TRACE_BYTES as u64 + 1)
         .read_to_end(&mut trace)?;
-    io::stdout().lock().write_all(run(&trace, show).as_bytes())
+    io::stdout().lock().write_all(answer(&trace).as_bytes())
 }
 
 /// Traces one after another, each after its length; a line with a dot ends each output.
-fn many(show: Show) -> io::Result<()> {
+fn many(answer: impl Fn(&[u8]) -> String) -> io::Result<()> {
     let mut input = io::stdin().lock();
     let mut output = io::stdout().lock();
     while let Some(length) = next_length(&mut input)? {
@@ -55,7 +64,7 @@ fn many(show: Show) -> io::Result<()> {
         if trace.len() as u64 != u64::from(length) {
             return Err(io::ErrorKind::UnexpectedEof.into());
         }
-        output.write_all(run(&trace, show).as_bytes())?;
+        output.write_all(answer(&trace).as_bytes())?;
         output.write_all(b".\n")?;
         output.flush()?;
     }

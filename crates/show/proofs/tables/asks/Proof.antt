@@ -1,0 +1,65 @@
+-- `show::tables::asks` meets its contract.
+use Prim.Native.Nat.{_≤_, _-_}
+use mathlib.Core.Path.{_≡_}
+use borrow.Author.Needs.{needs}
+use native.Mathlib.Omega.{arith}
+use lib.ListN.{length}
+use Rattle.show.proofs.tables.asks.Statement.{statement}
+use Rattle.show.proofs.tables.asks.Tie as tie
+
+abbrev Inv-loop : tie.InvT-loop
+Inv-loop out₀ at n jobs to₀ i₀ out to i = (i ≤ n) × (length out ≡ length out₀)
+
+abbrev μ-loop : tie.MeasureT-loop
+μ-loop out₀ at n jobs to₀ i₀ out to i = n - i
+
+loop-holds : tie.Need-loop-holds Inv-loop μ-loop
+loop-holds c = omega arith
+
+same-length : tie.Need-same-length Inv-loop μ-loop
+same-length c = search needs
+
+returns : tie.Need-returns Inv-loop μ-loop
+returns c = search needs
+
+mul-j : tie.Need-mul-j Inv-loop μ-loop
+mul-j c = search needs
+
+array-copy-out-j : tie.Need-array-copy-out-j Inv-loop μ-loop
+array-copy-out-j c = search needs
+
+ask-requires : tie.Need-ask-requires Inv-loop μ-loop
+ask-requires c κs = search needs
+
+add-i : tie.Need-add-i Inv-loop μ-loop
+add-i c = search needs
+
+loop-less : tie.Need-loop-less Inv-loop μ-loop
+loop-less c = search needs
+
+loop-again : tie.Need-loop-again Inv-loop μ-loop
+loop-again c = omega arith
+
+same-length-2 : tie.Need-same-length-2 Inv-loop μ-loop
+same-length-2 c = search needs
+
+returns-2 : tie.Need-returns-2 Inv-loop μ-loop
+returns-2 c = search needs
+
+pub asks-spec : {M : Type 1} → statement M
+asks-spec =
+    tie.close
+    (tie.spec
+    Inv-loop
+    μ-loop
+    loop-holds
+    same-length
+    returns
+    mul-j
+    array-copy-out-j
+    ask-requires
+    add-i
+    loop-less
+    loop-again
+    same-length-2
+    returns-2)
