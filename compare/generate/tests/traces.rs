@@ -1,7 +1,7 @@
 //! A seed gives one trace, traces read back in their readable form, and sound kinds have no raw bytes.
 
 use form::Item;
-use generate::{any, seed_of, trace, Kind, KINDS};
+use generate::{any, any_to_load, seed_of, trace, Kind, KINDS};
 
 #[test]
 fn a_seed_names_one_trace_and_seeds_differ() {
@@ -49,4 +49,19 @@ fn every_kind_is_drawn() {
             "{name}"
         );
     }
+}
+
+#[test]
+fn traces_to_load_are_mostly_damaged_and_meet_every_refusal() {
+    let drawn: Vec<(Kind, Vec<u8>)> = (0..4_000)
+        .map(|number| any_to_load(seed_of(1, number)))
+        .collect();
+    let damaged = drawn.iter().filter(|(kind, _)| *kind == Kind::Damaged);
+    assert!(damaged.count() * 2 > drawn.len());
+    let mut met = [0; 10];
+    for (_, bytes) in &drawn {
+        let refusal = second::load(bytes).refusal;
+        met[refusal.map_or(0, |refusal| refusal.number as usize)] += 1;
+    }
+    assert!(met.iter().all(|&times| times > 20), "{met:?}");
 }

@@ -94,14 +94,14 @@ impl Contest {
             .filter(|(_, &ok)| ok)
             .map(|((_, t), _)| &t[..])
             .collect();
-        let mut sessions = [0, 1].map(|side| self.programs[side].start(&list, self.show));
+        let mut started = [0, 1].map(|side| self.programs[side].start(&list, self.show));
         let mut verdicts = Vec::with_capacity(drawn.len());
         for (place, (kind, trace)) in drawn.iter().enumerate() {
             if !admitted[place] {
                 verdicts.push(Verdict::LeftOut);
                 continue;
             }
-            let [left, right] = &mut sessions;
+            let [left, right] = &mut started;
             if left.next(trace) == right.next(trace) {
                 verdicts.push(Verdict::Agree);
                 continue;

@@ -30,6 +30,17 @@ fn a_program_agrees_with_itself() {
 }
 
 #[test]
+fn loads_alone_are_compared_but_not_with_the_original() {
+    let output = judge(&["second", "second", "--load", "--traces", "300"]);
+    assert_eq!(output.status.code(), Some(0));
+    assert!(text(&output).contains("compared 300"), "{}", text(&output));
+    let output = judge(&["second", "each:cat", "--load", "--traces", "20"]);
+    assert_eq!(output.status.code(), Some(1));
+    let output = judge(&["second", "original", "--load"]);
+    assert_eq!(output.status.code(), Some(2));
+}
+
+#[test]
 fn a_program_that_prints_its_input_is_found_out() {
     let output = judge(&["second", "each:cat", "--traces", "20", "--kind", "domain"]);
     assert_eq!(output.status.code(), Some(1));

@@ -1,4 +1,4 @@
-//! The command `vectors FILE`: writes the stored cases that the proved programs are run on.
+//! The command `vectors FILE`: writes the stored cases that the program `replay` is run on; FILE is `crates/replay/stdin`.
 //!
 //! The cases are made here by hand, family by family (`fields`, `records`, `lengths`), each with the refusal that document 01 gives it,
 //! or none. The numbers are encoded by `form`, as the generated traces are. The second program is asked for the answer of every case,

@@ -40,11 +40,16 @@ pub fn part(file: &[u8], start: usize, end: usize) -> &[u8] {
     &file[..0]
 }
 
+// Stops where a turn adds nothing: at the end of the buffer, or with an empty piece.
 fn put_times(trace: &mut [u8], at: usize, piece: &[u8], times: usize) -> usize {
     let mut to = at;
     let mut i: usize = 0;
     while i < times {
-        to = put_bytes(trace, to, piece);
+        let next = put_bytes(trace, to, piece);
+        if next == to {
+            return to;
+        }
+        to = next;
         i = i + 1;
     }
     to
