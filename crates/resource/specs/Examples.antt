@@ -1,4 +1,4 @@
--- Document 01's examples on quota and gangs, as one statement about the definitions.
+-- Document 01's examples on placing, as statements about the definitions.
 use mathlib.Core.Path.{_≡_, refl}
 use mathlib.Core.Bool.{Bool, true, false}
 use mathlib.Core.List.{List, [], _∷_}
@@ -14,7 +14,12 @@ use Rattle.model.specs.declared.job.JobState.the-variants.{Waiting, Running}
 use Rattle.model.specs.declared.setting.Setting.{Setting}
 use lib.Ieee.{eq, ofBits}
 use Rattle.laws.specs.Sums.{sumOver}
-use Rattle.laws.specs.Search.{those}
+use Rattle.laws.specs.Search.{those, first}
+use Rattle.mig.specs.More.{put}
+use Rattle.mig.specs.Owner.{idle}
+use Rattle.mig.specs.Slices.{freeOn, givenSlices, cutAnew}
+use Rattle.mig.specs.Table.{freeInAll, firstIdle, givenInOrder, inOrder, gives}
+use Rattle.mig.specs.Allocate.{slicesPlaceable, slicesAllocated, enoughFree, cutHelps, cutFor, newSlices, freeElsewhere}
 use Rattle.cluster.specs.Usage.{usage, chargeTo, chargeOf, holding}
 use Rattle.eligible.specs.Rule.{eligible}
 use Rattle.eligible.specs.Eligible.{eligibles}
@@ -71,3 +76,26 @@ gang = asks 0 3 true 2 Waiting
 pub examples : (placeable (house 1 6 2 5) held (with-asking one) one ∷ placeable (house 1 6 2 5) held (with-asking two) two ∷ placeable (house 1 6 2 0) held (with-asking two) two ∷ placeable (house 2 5 1 0) free (gang ∷ []) gang ∷ []) ≡ (true ∷ false ∷ true ∷ false ∷ [])
 unfolding placeable firstCause resourceCause withinQuota usage sumOver chargeTo chargeOf holding whyNotHere whyNot whyNotGang eligibles those eligible eq ofBits
 examples = refl
+
+-- ---- slices: profile 0, kept as 1, has most 4
+
+-- a MIG-capable GPU cut into so many free slices of profile 0; 0 for uncut
+abbrev cuttable : ℕ → ℕ → List ℕ → Gpu
+cuttable profile slices owners = record { node = 0; kind = 0; memory = zero·0; group = 0; mig = true; owner = 0; profile = profile; slices = slices; owners = owners }
+
+abbrev nobodys : List ℕ
+nobodys = 0 ∷ 0 ∷ 0 ∷ 0 ∷ 0 ∷ 0 ∷ 0 ∷ []
+
+-- the first is cut into one free slice, the second is uncut
+abbrev half-cut : List Gpu
+half-cut = cuttable 1 1 nobodys ∷ cuttable 0 0 nobodys ∷ []
+
+-- J: two idle GPUs, most 4, 5 slices wanted: no. K: 2 wanted: yes, with the second GPU and without it.
+pub slices-examples : (slicesPlaceable (cuttable 0 0 nobodys ∷ cuttable 0 0 nobodys ∷ []) 2 1 4 5 ∷ slicesPlaceable half-cut 2 1 4 2 ∷ slicesPlaceable half-cut 1 1 4 2 ∷ []) ≡ (false ∷ true ∷ true ∷ [])
+unfolding enoughFree freeInAll sumOver freeOn those cutHelps firstIdle first idle
+slices-examples = refl
+
+-- K: the first is cut anew, and its two new slices are given to the job, here number 8
+pub slices-given : slicesAllocated half-cut 2 1 4 2 9 ≡ record { gpus = cuttable 1 2 (9 ∷ 9 ∷ 0 ∷ 0 ∷ 0 ∷ 0 ∷ 0 ∷ []) ∷ cuttable 0 0 nobodys ∷ []; placed = true; cut = true }
+unfolding slicesAllocated enoughFree freeInAll sumOver freeOn those cutHelps firstIdle first idle cutFor givenInOrder inOrder newSlices givenSlices cutAnew ofBits put freeElsewhere gives
+slices-given = refl
