@@ -4,25 +4,19 @@ use crate::share::node_share;
 use eligible::chosen::Chosen;
 use eligible::chosen::append;
 use eligible::chosen::first_of;
-use eligible::chosen::lesser;
 use eligible::chosen::no_ids;
 use eligible::chosen::with_key;
 use fit::first::Choice;
 use fit::first::take_these;
 use model::sizes::GPUS;
 use model::sizes::NODES;
+use small::either;
+use small::lesser;
 ghost use mathlib.Core.Path.{_≡_};
-ghost use mathlib.Core.Bool.{_||_};
 ghost use mathlib.Core.List.{[]};
 ghost use Rattle.laws.specs.Search.{those};
 ghost use Rattle.eligible.specs.Chosen.{chosen, listOf};
 ghost use Rattle.choice.specs.Gang.{gangNode, gangNodes, gangChoice};
-
-fn either(a: bool, b: bool) -> bool
-    ensures { λ r. ⌜ r ≡ (a || b) ⌝ }
-{
-    a || b
-}
 
 // The node k has enough for the gang, with a penalty or without, as asked.
 fn is_gang_node(

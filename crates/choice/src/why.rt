@@ -1,13 +1,13 @@
 // Why a whole-GPU job cannot be placed, if it cannot.
 
 use eligible::chosen::Chosen;
-use eligible::chosen::lesser;
 use eligible::chosen::tally;
-use eligible::rule::both;
 use fit::group::counted_at;
 use model::job::Ask;
 use model::sizes::GPUS;
 use model::sizes::NODES;
+use small::both;
+use small::lesser;
 ghost use mathlib.Core.Path.{_≡_};
 ghost use Prim.Native.Nat.{_<_};
 ghost use lib.ListN.{length};

@@ -1,10 +1,10 @@
 // Whole GPUs given to a job, and all that a job holds taken back.
 
 use mig::owner::free_gpu;
-use mig::small::lesser;
-use mig::small::wide_id;
 use model::gpu::Gpu;
 use model::sizes::GPUS;
+use small::lesser;
+use small::wide_id;
 ghost use mathlib.Core.Path.{_≡_};
 ghost use mathlib.Core.List.{map};
 ghost use lib.ListN.{take};

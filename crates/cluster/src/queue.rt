@@ -22,7 +22,7 @@ fn arrival_of(j: Job) -> u64
     bits_of(ask.arrival)
 }
 
-fn priorities(jobs: [Job; JOBS]) -> [u64; JOBS]
+pub fn priorities(jobs: [Job; JOBS]) -> [u64; JOBS]
     ensures { λ r. ⌜ r ≡ map priorityOf jobs ⌝ }
 {
     let mut numbers: [u64; JOBS] = [0; JOBS];

@@ -1,11 +1,11 @@
 // Which jobs hold GPUs, and how much of its quota a tenant uses.
 
-use mig::small::both;
-use mig::small::either;
-use mig::small::lesser;
 use model::job::Job;
 use model::job::JobState;
 use model::sizes::JOBS;
+use small::both;
+use small::either;
+use small::lesser;
 ghost use mathlib.Core.Path.{_≡_};
 ghost use Rattle.cluster.specs.Usage.{runs, placed, running, holding, chargeOf, chargeTo, usage};
 

@@ -1,9 +1,9 @@
 // Lists of GPU numbers, at most 128, and what is asked of them.
 
 use model::sizes::GPUS;
+use small::lesser;
 ghost use mathlib.Core.Path.{_≡_};
 ghost use mathlib.Core.List.{[], _++_};
-ghost use Prim.Native.Nat.{min};
 ghost use lib.ListN.{getD, take, replicate};
 ghost use Rattle.laws.specs.Lists.{pad};
 ghost use Rattle.eligible.specs.Chosen.{chosen, listOf, withKey, tallyOf};
@@ -15,15 +15,6 @@ pub const KEYS: usize = 257;
 pub struct Chosen {
     pub ids: [u16; GPUS],
     pub count: usize,
-}
-
-pub fn lesser(a: usize, b: usize) -> usize
-    ensures { λ r. ⌜ r ≡ min a b ⌝ }
-{
-    if a < b {
-        return a;
-    }
-    b
 }
 
 // A table that holds no number yet.

@@ -1,7 +1,6 @@
 // The GPUs that a job may take, in table order.
 
 use crate::chosen::Chosen;
-use crate::chosen::lesser;
 use crate::chosen::no_ids;
 use crate::rule::eligible_gpu;
 use model::gpu::Gpu;
@@ -9,6 +8,7 @@ use model::job::Ask;
 use model::setting::site_at;
 use model::sizes::GPUS;
 use model::sizes::NODES;
+use small::lesser;
 ghost use mathlib.Core.Path.{_≡_};
 ghost use Rattle.eligible.specs.Chosen.{chosen};
 ghost use Rattle.eligible.specs.Eligible.{eligibles};

@@ -2,15 +2,9 @@
 
 use model::gpu::Gpu;
 use model::job::Ask;
+use small::both;
 ghost use mathlib.Core.Path.{_≡_};
-ghost use mathlib.Core.Bool.{_&&_};
 ghost use Rattle.eligible.specs.Rule.{enough, asked, unowned, uncut, eligible};
-
-pub fn both(a: bool, b: bool) -> bool
-    ensures { λ r. ⌜ r ≡ (a && b) ⌝ }
-{
-    a && b
-}
 
 // Memory: 0.0 asks for none.
 fn is_enough(want: f64, have: f64) -> bool

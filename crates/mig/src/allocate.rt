@@ -3,11 +3,6 @@
 use crate::slices::cut_anew;
 use crate::slices::free_slices;
 use crate::slices::give_slices;
-use crate::small::both;
-use crate::small::either;
-use crate::small::lesser;
-use crate::small::minus;
-use crate::small::wide;
 use crate::table::first_idle;
 use crate::table::free_in_all;
 use crate::table::give_in_order;
@@ -15,6 +10,11 @@ use model::gpu::Gpu;
 use model::gpu::gpu_at;
 use model::gpu::put_gpu;
 use model::sizes::GPUS;
+use small::both;
+use small::either;
+use small::lesser;
+use small::minus;
+use small::wide;
 ghost use mathlib.Core.Path.{_≡_};
 ghost use Rattle.mig.specs.Allocate.{enoughFree, cutHelps, slicesPlaceable, freeElsewhere, newSlices, cutFor, slicesAllocated};
 

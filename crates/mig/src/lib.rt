@@ -3,5 +3,4 @@
 pub mod allocate;
 pub mod owner;
 pub mod slices;
-pub mod small;
 pub mod table;

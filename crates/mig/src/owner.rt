@@ -1,8 +1,8 @@
 // Who owns a GPU or a slice of it: idle GPUs, and taking away what a job owns.
 
-use crate::small::both;
 use model::gpu::Gpu;
 use model::sizes::SLICES;
+use small::both;
 ghost use mathlib.Core.Path.{_≡_};
 ghost use mathlib.Core.List.{map};
 ghost use Rattle.mig.specs.Owner.{nobodys, idle, withoutOwner, freed};

@@ -1,12 +1,12 @@
 // The slices of one GPU: free ones counted and given, and the GPU cut anew. A profile is its number plus 1, as the GPU and the job hold it.
 
-use crate::small::both;
-use crate::small::lesser;
-use crate::small::one_if;
-use crate::small::wide;
 use model::gpu::Gpu;
 use model::gpu::slice_owner_at;
 use model::sizes::SLICES;
+use small::both;
+use small::lesser;
+use small::one_if;
+use small::wide;
 ghost use mathlib.Core.Path.{_≡_};
 ghost use Rattle.mig.specs.Slices.{cut, sliceCount, freeSlice, freeSlices, cutAnew, givenSlices};
 

@@ -3,10 +3,10 @@
 use crate::owner::is_idle;
 use crate::slices::free_slices;
 use crate::slices::give_slices;
-use crate::small::both;
-use crate::small::lesser;
 use model::gpu::Gpu;
 use model::sizes::GPUS;
+use small::both;
+use small::lesser;
 ghost use mathlib.Core.Path.{_≡_};
 ghost use Rattle.mig.specs.Table.{mayCut, firstIdle, freeInAll, gives, givenInOrder};
 

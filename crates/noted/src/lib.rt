@@ -1,35 +1,14 @@
 // The five running totals, as joins, evictions and starts change them.
 
+mod change;
+mod lent;
+
+use crate::change::larger;
+use crate::lent::note_eviction;
+use crate::lent::note_start;
 use model::totals::Totals;
 ghost use mathlib.Core.Path.{_≡_};
-ghost use Rattle.noted.specs.Noted.{larger, more, grown, joined, evicted, started};
-
-fn larger(a: u64, b: u64) -> u64
-    ensures { λ r. ⌜ r ≡ larger a b ⌝ }
-{
-    if a < b {
-        return b;
-    }
-    a
-}
-
-fn more(n: u64, so: bool) -> u64
-    ensures { λ r. ⌜ r ≡ more n so ⌝ }
-{
-    if so {
-        return std::num::wrapping_add_u64(n, 1);
-    }
-    n
-}
-
-fn grown(added: f64, penalised: bool, remaining: f64, multiplier: f64) -> f64
-    ensures { λ r. ⌜ r ≡ grown added penalised remaining multiplier ⌝ }
-{
-    if penalised {
-        return added + remaining * (multiplier - 1.0);
-    }
-    added
-}
+ghost use Rattle.noted.specs.Noted.{joined, evicted, started};
 
 // A job has joined the queue, which is so long now.
 pub fn after_join(t: Totals, queue: u64) -> Totals
@@ -44,27 +23,20 @@ pub fn after_join(t: Totals, queue: u64) -> Totals
     }
 }
 
-// A victim has joined the queue, which is so long now.
+// A victim has joined the queue, which is so long now. The totals, a local here, are lent to be changed in place.
 pub fn after_eviction(t: Totals, queue: u64) -> Totals
     ensures { λ r. ⌜ r ≡ evicted t queue ⌝ }
 {
-    Totals {
-        evictions: more(t.evictions, true),
-        cuts: t.cuts,
-        penalised: t.penalised,
-        longest: larger(t.longest, queue),
-        added: t.added,
-    }
+    let mut u = t;
+    note_eviction(&mut u, queue);
+    u
 }
 
+// A job has started; lent in the same way.
 pub fn after_start(t: Totals, cut: bool, penalised: bool, remaining: f64, multiplier: f64) -> Totals
     ensures { λ r. ⌜ r ≡ started t cut penalised remaining multiplier ⌝ }
 {
-    Totals {
-        evictions: t.evictions,
-        cuts: more(t.cuts, cut),
-        penalised: more(t.penalised, penalised),
-        longest: t.longest,
-        added: grown(t.added, penalised, remaining, multiplier),
-    }
+    let mut u = t;
+    note_start(&mut u, cut, penalised, remaining, multiplier);
+    u
 }

@@ -1,2 +1,4 @@
--- The definitions of the public face.
+-- The definitions of the public face, and their laws.
 pub mod Question
+pub mod Step
+pub mod StepLaws

@@ -10,3 +10,8 @@ pub mod NothingDroppedLaws
 pub mod LoadedLaws
 pub mod TraceFormLaws
 pub mod RefusalLaws
+pub mod Between
+pub mod Happens
+pub mod Steps
+pub mod LoadedBetween
+pub mod Conditions

@@ -1,3 +1,4 @@
 -- The definitions of the event room.
 pub mod Room
 pub mod RoomLaws
+pub mod Ahead

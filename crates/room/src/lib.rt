@@ -1,5 +1,7 @@
 // The event room: 1,152 entries; the least event, taking one and adding one.
 
+pub mod ahead;
+
 use model::event::Event;
 use model::event::EventKind;
 use model::event::empty_event;

@@ -1,0 +1,47 @@
+-- `happen::time_out` meets its contract.
+use borrow.Author.Needs.{needs}
+use Rattle.happen.specs.Happen.{timesOut}
+use Rattle.happen.proofs.time_out.Statement.{statement}
+use Rattle.happen.proofs.time_out.Tie as tie
+
+wide-id-requires : tie.Need-wide-id-requires
+wide-id-requires c κs = search needs
+
+job-at-requires : tie.Need-job-at-requires
+job-at-requires c κs = search needs
+
+fail-requires : tie.Need-fail-requires
+fail-requires c κs = search needs
+
+wide-id-requires-2 : tie.Need-wide-id-requires-2
+wide-id-requires-2 c κs = search needs
+
+put-job-requires : tie.Need-put-job-requires
+put-job-requires c κs = search needs
+
+keep-waiting-requires : tie.Need-keep-waiting-requires
+keep-waiting-requires c κs = search needs
+
+is-permitted-requires : tie.Need-is-permitted-requires
+is-permitted-requires c κs = search needs
+
+say-requires : tie.Need-say-requires
+say-requires c κs = search needs
+
+returns : tie.Need-returns
+unfolding timesOut
+returns c = rw (c .say .ensures, c .before .is-permitted .ensures, c .before .before .before .keep-waiting .ensures, c .before .before .before .before .put-job .ensures, c .before .before .before .before .before .wide-id2 .ensures, c .before .before .before .before .before .before .fail .ensures, c .before .before .before .before .before .before .before .job-at .ensures, c .before .before .before .before .before .before .before .before .wide-id .ensures)
+
+pub time-out-spec : {M : Type 1} → statement M
+time-out-spec =
+    tie.close
+    (tie.spec
+    wide-id-requires
+    job-at-requires
+    fail-requires
+    wide-id-requires-2
+    put-job-requires
+    keep-waiting-requires
+    is-permitted-requires
+    say-requires
+    returns)

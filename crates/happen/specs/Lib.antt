@@ -1,0 +1,2 @@
+-- The definitions of what an event says.
+pub mod Happen

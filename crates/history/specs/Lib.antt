@@ -1,0 +1,27 @@
+-- What the decisions of a plan tell, and what holds of it all along.
+pub mod Told
+pub mod ToldLaws
+pub mod Good
+pub mod Changes
+pub mod PassGood
+pub mod StartsGood
+pub mod Entries
+pub mod Queued
+pub mod Owed
+pub mod PassOwed
+pub mod PassCame
+pub mod Prefixes
+pub mod PrefixesLaws
+pub mod Examples
+pub mod Owners
+pub mod OwnersFreed
+pub mod OwnersGiven
+pub mod OwnersAllocated
+pub mod OwnersChanges
+pub mod OwnersPass
+pub mod OwnersMeaning
+pub mod OwnersLoaded
+pub mod NonePlaced
+pub mod OwnersTold
+pub mod Owned
+pub mod OwnersSettles

@@ -1,0 +1,6 @@
+-- The definitions of the waiting line, and their laws.
+pub mod Line
+pub mod Keep
+pub mod Turns
+pub mod LineLaws
+pub mod KeepLaws

@@ -1,0 +1,24 @@
+-- `log::words::put_word` meets its contract.
+use borrow.Author.Needs.{needs}
+use Rattle.laws.specs.Tables.{past-put}
+use native.Mathlib.Omega.{arith}
+use Rattle.log.proofs.words.put_word.Statement.{statement}
+use Rattle.log.proofs.words.put_word.Tie as tie
+
+mul-out : tie.Need-mul-out
+mul-out c = search needs
+
+slice-write-out : tie.Need-slice-write-out
+slice-write-out c = search needs
+
+same-length : tie.Need-same-length
+same-length c = search needs
+
+returns : tie.Need-returns
+returns c = search needs
+
+returns-2 : tie.Need-returns-2
+returns-2 c = past-put _ _ _ (omega arith)
+
+pub put-word-spec : {M : Type 1} → statement M
+put-word-spec = tie.close (tie.spec mul-out slice-write-out same-length returns returns-2)

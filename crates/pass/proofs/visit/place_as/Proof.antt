@@ -1,0 +1,35 @@
+-- `pass::visit::place_as` meets its contract.
+use borrow.Author.Needs.{needs}
+use Rattle.pass.specs.Visit.{placedAs}
+use Rattle.pass.proofs.visit.place_as.Statement.{statement}
+use Rattle.pass.proofs.visit.place_as.Tie as tie
+
+wide-id-requires : tie.Need-wide-id-requires
+wide-id-requires c κs = search needs
+
+place-requires : tie.Need-place-requires
+place-requires c κs = search needs
+
+put-job-requires : tie.Need-put-job-requires
+put-job-requires c κs = search needs
+
+put-placing-requires : tie.Need-put-placing-requires
+put-placing-requires c κs = search needs
+
+onward-requires : tie.Need-onward-requires
+onward-requires c κs = search needs
+
+returns : tie.Need-returns
+unfolding placedAs
+returns c = rw (c .onward .ensures, c .before .put-placing .ensures, c .before .before .put-job .ensures, c .before .before .before .place .ensures, c .before .before .before .before .wide-id .ensures)
+
+pub place-as-spec : {M : Type 1} → statement M
+place-as-spec =
+    tie.close
+    (tie.spec
+    wide-id-requires
+    place-requires
+    put-job-requires
+    put-placing-requires
+    onward-requires
+    returns)

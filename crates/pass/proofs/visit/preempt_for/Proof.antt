@@ -1,0 +1,24 @@
+-- `pass::visit::preempt_for` meets its contract.
+use borrow.Author.Needs.{needs}
+use Rattle.pass.specs.Visit.{preempting-none, preempting-some}
+use Rattle.pass.proofs.visit.preempt_for.Statement.{statement}
+use Rattle.pass.proofs.visit.preempt_for.Tie as tie
+
+preempt-requires : tie.Need-preempt-requires
+preempt-requires c κs = search needs
+
+returns : tie.Need-returns
+returns c = preempting-none _ _ _ _ _ _ (c .before .before .preempt .ensures) (c .if1 .taken)
+
+make-way-requires : tie.Need-make-way-requires
+make-way-requires c κs = search needs
+
+settle-requires : tie.Need-settle-requires
+settle-requires c κs = search needs
+
+returns-2 : tie.Need-returns-2
+returns-2 c = preempting-some _ _ _ _ _ _ (c .before .before .before .before .preempt .ensures) _ _ (c .before .before .if1 .left) (c .before .make-way .ensures) (c .settle .ensures)
+
+pub preempt-for-spec : {M : Type 1} → statement M
+preempt-for-spec =
+    tie.close (tie.spec preempt-requires returns make-way-requires settle-requires returns-2)

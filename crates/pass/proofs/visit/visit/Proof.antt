@@ -1,0 +1,43 @@
+-- `pass::visit::visit` meets its contract.
+use mathlib.Core.Path.{sym, _∙_}
+use borrow.Author.Needs.{needs}
+use Rattle.pass.specs.Visit.{visited-other, visited-victim, visited-waiting}
+use Rattle.pass.proofs.visit.visit.Statement.{statement}
+use Rattle.pass.proofs.visit.visit.Tie as tie
+
+wide-id-requires : tie.Need-wide-id-requires
+wide-id-requires c κs = search needs
+
+job-at-requires : tie.Need-job-at-requires
+job-at-requires c κs = search needs
+
+is-waiting-requires : tie.Need-is-waiting-requires
+is-waiting-requires c κs = search needs
+
+is-among-requires : tie.Need-is-among-requires
+is-among-requires c κs = search needs
+
+returns : tie.Need-returns
+returns c = visited-victim _ _ _ _ _ (c .before .before .before .before .job-at .ensures ∙ rw (c .before .before .before .before .before .wide-id .ensures)) (sym (c .before .before .before .is-waiting .ensures) ∙ c .before .before .if1 .taken) (sym (c .before .is-among .ensures) ∙ c .if2 .taken)
+
+consider-requires : tie.Need-consider-requires
+consider-requires c κs = search needs
+
+returns-2 : tie.Need-returns-2
+returns-2 c = visited-waiting _ _ _ _ _ (c .before .before .before .before .before .job-at .ensures ∙ rw (c .before .before .before .before .before .before .wide-id .ensures)) _ (sym (c .before .before .before .before .is-waiting .ensures) ∙ c .before .before .before .if1 .taken) (sym (c .before .before .is-among .ensures) ∙ c .before .if2 .left) (c .consider .ensures)
+
+returns-3 : tie.Need-returns-3
+returns-3 c = visited-other _ _ _ _ _ (c .before .before .job-at .ensures ∙ rw (c .before .before .before .wide-id .ensures)) (sym (c .before .is-waiting .ensures) ∙ c .if1 .left)
+
+pub visit-spec : {M : Type 1} → statement M
+visit-spec =
+    tie.close
+    (tie.spec
+    wide-id-requires
+    job-at-requires
+    is-waiting-requires
+    is-among-requires
+    returns
+    consider-requires
+    returns-2
+    returns-3)

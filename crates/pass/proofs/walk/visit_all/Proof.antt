@@ -1,0 +1,59 @@
+-- `pass::walk::visit_all` meets its contract.
+use mathlib.Core.Path.{_≡_, _∙_}
+use Prim.Native.Nat.{_≤_, _-_}
+use native.Mathlib.Omega.{arith}
+use borrow.Author.Needs.{needs}
+use Rattle.laws.specs.Loop.{through, through-step, through-end}
+use Rattle.pass.specs.Walk.{visitAt}
+use Rattle.pass.proofs.walk.visit_all.Statement.{statement}
+use Rattle.pass.proofs.walk.visit_all.Tie as tie
+
+abbrev Inv-loop : tie.InvT-loop
+Inv-loop setting clock queue m turn₀ i₀ turn i = (i ≤ m) × (m ≤ 128) × (through (visitAt setting clock queue) turn (m - i) i ≡ through (visitAt setting clock queue) turn₀ m 0)
+
+abbrev μ-loop : tie.MeasureT-loop
+μ-loop setting clock queue m turn₀ i₀ turn i = m - i
+
+lesser-requires : tie.Need-lesser-requires Inv-loop μ-loop
+lesser-requires c κs = search needs
+
+loop-holds : tie.Need-loop-holds Inv-loop μ-loop
+loop-holds c = let e : c .lesser .result - 0 ≡ c .lesser .result = omega arith in (omega arith, omega arith, rw e)
+
+mul-visit : tie.Need-mul-visit Inv-loop μ-loop
+mul-visit c = search needs
+
+array-read-visit : tie.Need-array-read-visit Inv-loop μ-loop
+array-read-visit c = search needs
+
+visit-requires : tie.Need-visit-requires Inv-loop μ-loop
+visit-requires c κs = search needs
+
+add-i : tie.Need-add-i Inv-loop μ-loop
+add-i c = search needs
+
+loop-less : tie.Need-loop-less Inv-loop μ-loop
+loop-less c = omega arith
+
+loop-again : tie.Need-loop-again Inv-loop μ-loop
+loop-again c =
+    (omega arith, omega arith, rw (c .visit .ensures) (through-step (visitAt (c .before .before .before .before .before .before .args .setting) (c .before .before .before .before .before .before .args .clock) (c .before .before .before .before .before .before .args .pass .line .queue)) (c .before .before .loop .turn) (c .before .before .before .lesser .result) (c .before .before .loop .i) (omega arith) ∙ c .before .before .loop .inv .2))
+
+returns : tie.Need-returns Inv-loop μ-loop
+returns c = through-end (visitAt (c .before .before .before .before .before .args .setting) (c .before .before .before .before .before .args .clock) (c .before .before .before .before .before .args .pass .line .queue)) (c .before .loop .turn) (c .before .before .lesser .result) (c .before .loop .i) (omega arith) ∙ c .before .loop .inv .2 ∙ rw (c .before .before .lesser .ensures)
+
+pub visit-all-spec : {M : Type 1} → statement M
+visit-all-spec =
+    tie.close
+    (tie.spec
+    Inv-loop
+    μ-loop
+    lesser-requires
+    loop-holds
+    mul-visit
+    array-read-visit
+    visit-requires
+    add-i
+    loop-less
+    loop-again
+    returns)

@@ -1,0 +1,34 @@
+-- `preemptive::candidate::candidates` meets its contract.
+use Rattle.preemptive.specs.CandidateSteps.{candidates-sorted}
+use borrow.Author.Needs.{needs}
+use Rattle.preemptive.proofs.candidate.candidates.Statement.{statement}
+use Rattle.preemptive.proofs.candidate.candidates.Tie as tie
+
+cast-candidates-by-number : tie.Need-cast-candidates-by-number
+cast-candidates-by-number c = search needs
+
+candidates-by-number-requires : tie.Need-candidates-by-number-requires
+candidates-by-number-requires c κs = search needs
+
+priorities-requires : tie.Need-priorities-requires
+priorities-requires c κs = search needs
+
+no-numbers-requires : tie.Need-no-numbers-requires
+no-numbers-requires c κs = search needs
+
+sort-by-requires : tie.Need-sort-by-requires
+sort-by-requires c κs = search needs
+
+returns : tie.Need-returns
+returns c = candidates-sorted _ _ _ (c .before .before .before .before .candidates-by-number .result) _ _ _ (c .before .before .before .before .candidates-by-number .ensures) (c .before .before .priorities .ensures) (c .before .no-numbers .ensures) (c .sort-by .ensures)
+
+pub candidates-spec : {M : Type 1} → statement M
+candidates-spec =
+    tie.close
+    (tie.spec
+    cast-candidates-by-number
+    candidates-by-number-requires
+    priorities-requires
+    no-numbers-requires
+    sort-by-requires
+    returns)

@@ -1,0 +1,2 @@
+-- The definitions of small rules on numbers.
+pub mod Small

@@ -1,0 +1,60 @@
+-- `starts::begin::begin_all` meets its contract.
+use borrow.Author.Needs.{needs}
+use native.Mathlib.Omega.{arith}
+use mathlib.Core.Path.{_≡_, refl, sym, _∙_}
+use Prim.Native.Nat.{_≤_, _-_}
+use lib.ListN.{take, drop}
+use Rattle.model.specs.Sizes as Sizes
+use Rattle.starts.specs.Turns.{folded, folded-start, folded-turn, folded-done}
+use Rattle.starts.specs.Begin.{begun, begun-folded}
+use Rattle.starts.proofs.begin.begin_all.Statement.{statement}
+use Rattle.starts.proofs.begin.begin_all.Tie as tie
+
+abbrev Inv-loop : tie.InvT-loop
+Inv-loop options clock count placed n work₀ i₀ work i = (i ≤ n) × (n ≤ Sizes.jobs) × (folded (begun options clock) work (drop i (take n placed)) ≡ folded (begun options clock) work₀ (take count placed))
+
+abbrev μ-loop : tie.MeasureT-loop
+μ-loop options clock count placed n work₀ i₀ work i = n - i
+
+lesser-requires : tie.Need-lesser-requires Inv-loop μ-loop
+lesser-requires c κs = search needs
+
+loop-holds : tie.Need-loop-holds Inv-loop μ-loop
+loop-holds c = (omega arith, omega arith, folded-start (begun (c .before .args .options) (c .before .args .clock)) (c .before .args .b) (c .before .args .t4) (c .before .args .count) (c .lesser .result) Sizes.jobs (c .lesser .ensures) (omega arith))
+
+mul-begin : tie.Need-mul-begin Inv-loop μ-loop
+mul-begin c = search needs
+
+array-copy-out-begin : tie.Need-array-copy-out-begin Inv-loop μ-loop
+array-copy-out-begin c = search needs
+
+begin-requires : tie.Need-begin-requires Inv-loop μ-loop
+begin-requires c κs = search needs
+
+add-i : tie.Need-add-i Inv-loop μ-loop
+add-i c = search needs
+
+loop-less : tie.Need-loop-less Inv-loop μ-loop
+loop-less c = omega arith
+
+loop-again : tie.Need-loop-again Inv-loop μ-loop
+loop-again c = (omega arith, omega arith, rw (c .begin .ensures) (folded-turn (begun (c .before .before .before .before .before .args .options) (c .before .before .before .before .before .args .clock)) (c .before .before .before .loop .work) (c .before .before .before .before .before .args .t4) (c .before .before .before .before .lesser .result) (c .before .before .before .loop .i) _ _ (omega arith) (omega arith) refl ∙ c .before .before .before .loop .inv .2))
+
+returns : tie.Need-returns Inv-loop μ-loop
+returns c = folded-done (begun (c .before .before .before .args .options) (c .before .before .before .args .clock)) (c .before .loop .work) (c .before .before .before .args .t4) (c .before .before .lesser .result) (c .before .loop .i) (omega arith) (omega arith) ∙ c .before .loop .inv .2 ∙ sym (begun-folded (c .before .before .before .args .options) (c .before .before .before .args .clock) (c .before .before .before .args .b) (take (c .before .before .before .args .count) (c .before .before .before .args .t4)))
+
+pub begin-all-spec : {M : Type 1} → statement M
+begin-all-spec =
+    tie.close
+    (tie.spec
+    Inv-loop
+    μ-loop
+    lesser-requires
+    loop-holds
+    mul-begin
+    array-copy-out-begin
+    begin-requires
+    add-i
+    loop-less
+    loop-again
+    returns)
