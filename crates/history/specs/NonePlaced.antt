@@ -20,18 +20,18 @@ use Rattle.model.specs.declared.setting.Options.{Options}
 use Rattle.model.specs.declared.setting.Setting.{Setting}
 use Rattle.cluster.specs.Usage.{placed}
 use Rattle.life.specs.Life as Life
-use Rattle.line.specs.LineLaws.{Sized, victimsOf}
+use Rattle.apart.specs.LineLaws.{Sized, victimsOf}
 use Rattle.line.specs.declared.join.Line.{Line}
 use Rattle.starts.specs.Begin as Begin
 use Rattle.starts.specs.Begin.{begunAll}
-use Rattle.starts.specs.StartsLaws.{jobsOf, begun-other, begun-runs, begun-length}
+use Rattle.apart.specs.StartsLaws.{jobsOf, begun-other, begun-runs, begun-length}
 use Rattle.starts.specs.declared.begin.Placing.{Placing}
 use Rattle.starts.specs.declared.begin.Begun.{Begun}
 use Rattle.pass.specs.Visit.{newPass}
 use Rattle.pass.specs.Walk.{walked}
-use Rattle.pass.specs.Standing.{InState, placedOf}
-use Rattle.pass.specs.Changes.{Changes}
-use Rattle.pass.specs.PassLaws.{pass-changes}
+use Rattle.apart.specs.Standing.{InState, placedOf}
+use Rattle.apart.specs.Changes.{Changes}
+use Rattle.apart.specs.PassLaws.{pass-changes}
 use Rattle.pass.specs.declared.visit.Pass.{Pass}
 use Rattle.history.specs.Good.{jobAt}
 use Rattle.history.specs.OwnersChanges.{holdsIn}

@@ -22,7 +22,7 @@ use Rattle.choice.specs.ChooseLaws.{choose-right, choose-each, choose-distinct}
 use Rattle.resource.specs.Cause.{mostOf, placeable}
 use Rattle.resource.specs.Allocate.{wholeAllocated, slicesGot, allocated}
 use Rattle.resource.specs.AllocateLaws.{placeable-enough, placeable-slices}
-use Rattle.pass.specs.Leaving.{allocated-length}
+use Rattle.apart.specs.Leaving.{allocated-length}
 use Rattle.history.specs.Owners.{Share, nothing, holds, wanted, Formed, Cuts}
 use Rattle.history.specs.OwnersFreed.{share-same}
 use Rattle.history.specs.OwnersGiven.{Free, given-own, given-others, given-behind, given-formed, slices-own, slices-others, slices-behind, slices-formed}

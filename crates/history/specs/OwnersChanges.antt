@@ -20,7 +20,7 @@ use Rattle.cluster.specs.Usage.{runs, placed, holding}
 use Rattle.life.specs.Life as Life
 use Rattle.resource.specs.Cause.{placeable}
 use Rattle.resource.specs.Allocate.{allocated}
-use Rattle.pass.specs.Leaving.{allocated-length}
+use Rattle.apart.specs.Leaving.{allocated-length}
 use Rattle.history.specs.Good.{jobAt}
 use Rattle.history.specs.Owners.{nothing, holds, wanted, due, Formed, Owners, Cuts}
 use Rattle.history.specs.OwnersFreed.{freed-nothing, freed-others, freed-behind, all-freed}

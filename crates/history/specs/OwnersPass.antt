@@ -18,19 +18,19 @@ use Rattle.life.specs.Life as Life
 use Rattle.resource.specs.Cause.{placeable}
 use Rattle.resource.specs.AllocateLaws.{placed-placeable}
 use Rattle.preemptive.specs.Prefix.{freedAll, evictedAll}
-use Rattle.line.specs.LineLaws.{Sized}
+use Rattle.apart.specs.LineLaws.{Sized}
 use Rattle.line.specs.declared.join.Line.{Line}
 use Rattle.starts.specs.Begin as Begin
 use Rattle.starts.specs.Begin.{begunAll}
-use Rattle.starts.specs.StartsLaws.{jobsOf, jobOf, startOf, all-among}
+use Rattle.apart.specs.StartsLaws.{jobsOf, jobOf, startOf, all-among}
 use Rattle.starts.specs.declared.begin.Placing.{Placing}
 use Rattle.starts.specs.declared.begin.Begun.{Begun}
 use Rattle.pass.specs.Visit.{allocation, placedAs, newPass}
 use Rattle.pass.specs.Walk.{sorted, walked}
-use Rattle.pass.specs.Standing.{Standing, Looked, InState, cleared, looked-in}
-use Rattle.pass.specs.Leaving.{MayLeave}
-use Rattle.pass.specs.Keeps.{Kept, placing}
-use Rattle.pass.specs.PassLaws.{pass-keeps}
+use Rattle.apart.specs.Standing.{Standing, Looked, InState, cleared, looked-in}
+use Rattle.apart.specs.Leaving.{MayLeave}
+use Rattle.apart.specs.Keeps.{Kept, placing}
+use Rattle.apart.specs.PassLaws.{pass-keeps}
 use Rattle.pass.specs.declared.visit.Pass.{Pass}
 use Rattle.history.specs.Good.{jobAt}
 use Rattle.history.specs.Owners.{Owners, Cuts}

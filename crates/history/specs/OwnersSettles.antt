@@ -9,14 +9,14 @@ use Rattle.model.specs.declared.job.Job.{Job}
 use Rattle.model.specs.declared.job.JobState.the-variants.{Placed}
 use Rattle.model.specs.declared.setting.Options.{Options}
 use Rattle.model.specs.declared.setting.Setting.{Setting}
-use Rattle.line.specs.LineLaws.{Sized}
+use Rattle.apart.specs.LineLaws.{Sized}
 use Rattle.line.specs.declared.join.Line.{Line}
 use Rattle.starts.specs.Begin.{begunAll}
 use Rattle.starts.specs.declared.begin.Begun.{Begun}
 use Rattle.pass.specs.Visit.{newPass}
 use Rattle.pass.specs.Walk.{walked}
-use Rattle.pass.specs.Standing.{Standing, InState, placedOf}
-use Rattle.pass.specs.PassLaws.{pass-standing}
+use Rattle.apart.specs.Standing.{Standing, InState, placedOf}
+use Rattle.apart.specs.PassLaws.{pass-standing}
 use Rattle.pass.specs.declared.visit.Pass.{Pass}
 use Rattle.history.specs.Owners.{Owners, Cuts}
 use Rattle.history.specs.OwnersPass.{owners-pass, owners-starts}

@@ -16,17 +16,17 @@ use Rattle.model.specs.declared.setting.Setting.{Setting}
 use Rattle.log.specs.Log.{decisions, most}
 use Rattle.log.specs.declared.Decision.{Decision}
 use Rattle.log.specs.declared.Kind.the-variants.{Evicted, Started}
-use Rattle.line.specs.LineLaws.{Sized}
+use Rattle.apart.specs.LineLaws.{Sized}
 use Rattle.line.specs.declared.join.Line.{Line}
 use Rattle.starts.specs.Begin as Begin
 use Rattle.starts.specs.Begin.{amount, begunAll}
-use Rattle.starts.specs.StartsLaws.{startsTold, begun-ask, all-decisions}
+use Rattle.apart.specs.StartsLaws.{startsTold, begun-ask, all-decisions}
 use Rattle.starts.specs.declared.begin.Placing.{Placing}
 use Rattle.starts.specs.declared.begin.Begun.{Begun}
 use Rattle.pass.specs.Visit.{newPass}
 use Rattle.pass.specs.Walk.{walked}
-use Rattle.pass.specs.Told.{Told}
-use Rattle.pass.specs.PassLaws.{pass-told}
+use Rattle.apart.specs.Told.{Told}
+use Rattle.apart.specs.PassLaws.{pass-told}
 use Rattle.history.specs.Told.{isStarted}
 use Rattle.history.specs.Good.{jobAt}
 use Rattle.history.specs.Owners.{holds, Owners}

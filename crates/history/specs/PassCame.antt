@@ -14,13 +14,13 @@ use Rattle.life.specs.Life as Life
 use Rattle.preemptive.specs.Prefix.{evictedAll}
 use Rattle.starts.specs.Begin as Begin
 use Rattle.starts.specs.Begin.{begunAll}
-use Rattle.starts.specs.StartsLaws.{jobsOf, jobOf, startOf}
+use Rattle.apart.specs.StartsLaws.{jobsOf, jobOf, startOf}
 use Rattle.starts.specs.declared.begin.Placing.{Placing}
 use Rattle.starts.specs.declared.begin.Begun.{Begun}
 use Rattle.pass.specs.Visit.{placedAs, allocation}
-use Rattle.pass.specs.Standing.{Standing, Looked, InState, cleared}
-use Rattle.pass.specs.Leaving.{MayLeave}
-use Rattle.pass.specs.Keeps.{Kept, placing}
+use Rattle.apart.specs.Standing.{Standing, Looked, InState, cleared}
+use Rattle.apart.specs.Leaving.{MayLeave}
+use Rattle.apart.specs.Keeps.{Kept, placing}
 use Rattle.pass.specs.declared.visit.Pass.{Pass}
 use Rattle.history.specs.Good.{jobAt}
 use Rattle.history.specs.StartsGood.{begun-jobs, still-placed}

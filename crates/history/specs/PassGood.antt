@@ -23,13 +23,13 @@ use Rattle.life.specs.Life as Life
 use Rattle.resource.specs.Cause.{placeable}
 use Rattle.resource.specs.AllocateLaws.{placed-placeable, placeable-quota}
 use Rattle.preemptive.specs.Prefix.{evictedAll}
-use Rattle.preemptive.specs.CandidateLaws.{MakesWay}
+use Rattle.apart.specs.CandidateLaws.{MakesWay}
 use Rattle.line.specs.Line.{joinedAll}
-use Rattle.line.specs.LineLaws.{evictionTold, joins-decisions, joins-count, joins-evicted}
+use Rattle.apart.specs.LineLaws.{evictionTold, joins-decisions, joins-count, joins-evicted}
 use Rattle.pass.specs.Visit.{placedAs, allocation}
-use Rattle.pass.specs.Standing.{Standing, Looked, cleared, looked-in, clear-room, few, clear-evicted}
-use Rattle.pass.specs.Leaving.{MayLeave, may-run}
-use Rattle.pass.specs.Keeps.{Kept, placing}
+use Rattle.apart.specs.Standing.{Standing, Looked, cleared, looked-in, clear-room, few, clear-evicted}
+use Rattle.apart.specs.Leaving.{MayLeave, may-run}
+use Rattle.apart.specs.Keeps.{Kept, placing}
 use Rattle.pass.specs.declared.visit.Pass.{Pass}
 use Rattle.history.specs.Good.{jobAt, Good}
 use Rattle.history.specs.Changes.{good-evicted, good-placed}

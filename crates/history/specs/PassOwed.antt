@@ -19,17 +19,17 @@ use Rattle.model.specs.declared.setting.Setting.{Setting}
 use Rattle.life.specs.Life as Life
 use Rattle.life.specs.Life.{timed}
 use Rattle.preemptive.specs.Prefix.{evictedAll}
-use Rattle.preemptive.specs.PrefixLaws as PrefixLaws
-use Rattle.line.specs.LineLaws.{victimsOf}
+use Rattle.apart.specs.PrefixLaws as PrefixLaws
+use Rattle.apart.specs.LineLaws.{victimsOf}
 use Rattle.starts.specs.Begin as Begin
 use Rattle.starts.specs.Begin.{begunAll}
-use Rattle.starts.specs.StartsLaws.{jobsOf, jobOf, startOf, begun-other}
+use Rattle.apart.specs.StartsLaws.{jobsOf, jobOf, startOf, begun-other}
 use Rattle.starts.specs.declared.begin.Placing.{Placing}
 use Rattle.starts.specs.declared.begin.Begun.{Begun}
 use Rattle.pass.specs.Visit.{placedAs, allocation}
-use Rattle.pass.specs.Standing.{Standing, Looked, InState, cleared, looked-in, clear-behind}
-use Rattle.pass.specs.Leaving.{MayLeave, may-run}
-use Rattle.pass.specs.Keeps.{Kept, placing}
+use Rattle.apart.specs.Standing.{Standing, Looked, InState, cleared, looked-in, clear-behind}
+use Rattle.apart.specs.Leaving.{MayLeave, may-run}
+use Rattle.apart.specs.Keeps.{Kept, placing}
 use Rattle.pass.specs.declared.visit.Pass.{Pass}
 use Rattle.history.specs.Good.{jobAt}
 use Rattle.history.specs.Queued.{timedOne}

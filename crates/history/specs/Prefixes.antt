@@ -17,12 +17,12 @@ use Rattle.log.specs.declared.Decision.{Decision}
 use Rattle.resource.specs.Cause.{placeable}
 use Rattle.preemptive.specs.Candidate.{candidates}
 use Rattle.preemptive.specs.Prefix.{opens, shortest}
-use Rattle.preemptive.specs.PrefixLaws.{IsShortest}
+use Rattle.apart.specs.PrefixLaws.{IsShortest}
 use Rattle.line.specs.Keep.{waits}
-use Rattle.line.specs.LineLaws.{victimsOf, evictionTold}
+use Rattle.apart.specs.LineLaws.{victimsOf, evictionTold}
 use Rattle.pass.specs.Walk.{sorted, visitAt}
-use Rattle.pass.specs.Standing.{Looked, jobAt, cleared}
-use Rattle.pass.specs.Keeps.{placing}
+use Rattle.apart.specs.Standing.{Looked, jobAt, cleared}
+use Rattle.apart.specs.Keeps.{placing}
 use Rattle.pass.specs.declared.visit.Pass.{Pass}
 use Rattle.history.specs.Told.{isEvicted}
 

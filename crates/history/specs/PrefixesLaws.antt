@@ -28,23 +28,23 @@ use Rattle.log.specs.declared.Log.{Log}
 use Rattle.life.specs.Life as Life
 use Rattle.cluster.specs.Usage as Usage
 use Rattle.preemptive.specs.Prefix.{made, preempted, evictedAll}
-use Rattle.preemptive.specs.PrefixLaws.{shortest-prefix, preempted-victims}
+use Rattle.apart.specs.PrefixLaws.{shortest-prefix, preempted-victims}
 use Rattle.line.specs.Keep.{waitsIn, waits}
 use Rattle.line.specs.Line.{newLine}
-use Rattle.line.specs.LineLaws.{Sized, victimsOf, evictionTold, new-sized, joins-decisions}
+use Rattle.apart.specs.LineLaws.{Sized, victimsOf, evictionTold, new-sized, joins-decisions}
 use Rattle.line.specs.declared.join.Line.{Line}
 use Rattle.starts.specs.Begin.{begun, begunAll}
-use Rattle.starts.specs.StartsLaws.{startsTold, all-decisions}
+use Rattle.apart.specs.StartsLaws.{startsTold, all-decisions}
 use Rattle.starts.specs.declared.begin.Begun.{Begun}
 use Rattle.starts.specs.declared.begin.Placing.{Placing}
 use Rattle.pass.specs.Visit.{newPass, placedAs, allocation, visited}
 use Rattle.pass.specs.Walk.{sorted, visitAt, walked}
-use Rattle.pass.specs.Standing.{Standing, Looked, InState, jobAt, cleared, place-other, place-it, place-line, clear-room, clear-other, clear-standing, clear-looked}
-use Rattle.pass.specs.Leaving.{preemption, leaving, leaving-may, leaving-once, may-run}
-use Rattle.pass.specs.Keeps.{Kept, placing, sorted-standing, visit-keeps}
-use Rattle.pass.specs.VisitLaws.{visit-other, visit-victim, visit-places, visit-mig, visit-nobody, visit-preempts}
-use Rattle.pass.specs.Told.{Told, told-kept}
-use Rattle.pass.specs.PassLaws.{new-standing, pass-standing, pass-none-lost, pass-room}
+use Rattle.apart.specs.Standing.{Standing, Looked, InState, jobAt, cleared, place-other, place-it, place-line, clear-room, clear-other, clear-standing, clear-looked}
+use Rattle.apart.specs.Leaving.{preemption, leaving, leaving-may, leaving-once, may-run}
+use Rattle.apart.specs.Keeps.{Kept, placing, sorted-standing, visit-keeps}
+use Rattle.apart.specs.VisitLaws.{visit-other, visit-victim, visit-places, visit-mig, visit-nobody, visit-preempts}
+use Rattle.apart.specs.Told.{Told, told-kept}
+use Rattle.apart.specs.PassLaws.{new-standing, pass-standing, pass-none-lost, pass-room}
 use Rattle.pass.specs.declared.visit.Pass.{Pass}
 use Rattle.history.specs.Told.{isEvicted}
 use Rattle.history.specs.Prefixes.{fitsNow, candidatesAt, howMany, prefix, prefixTold, not-waiting, a-victim, no-prefix, Places, Preempts, Outcome, nothing, places, preempts, visitor, visits, after, evictsFor, Silent, Evicts, nobody, once, Prefixes}

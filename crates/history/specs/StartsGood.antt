@@ -18,10 +18,10 @@ use Rattle.log.specs.declared.Decision.{Decision}
 use Rattle.life.specs.Life as Life
 use Rattle.starts.specs.Begin as Begin
 use Rattle.starts.specs.Begin.{begunAll, amount}
-use Rattle.starts.specs.StartsLaws.{jobsOf, jobOf, startOf, startTold, begun-other, begun-decisions, begun-count, begun-table}
+use Rattle.apart.specs.StartsLaws.{jobsOf, jobOf, startOf, startTold, begun-other, begun-decisions, begun-count, begun-table}
 use Rattle.starts.specs.declared.begin.Placing.{Placing}
 use Rattle.starts.specs.declared.begin.Begun.{Begun}
-use Rattle.pass.specs.Standing.{InState}
+use Rattle.apart.specs.Standing.{InState}
 use Rattle.history.specs.Good.{jobAt, Good}
 use Rattle.history.specs.Changes.{good-started}
 

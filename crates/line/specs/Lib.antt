@@ -2,5 +2,3 @@
 pub mod Line
 pub mod Keep
 pub mod Turns
-pub mod LineLaws
-pub mod KeepLaws

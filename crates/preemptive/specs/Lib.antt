@@ -2,7 +2,4 @@
 pub mod Candidate
 pub mod Prefix
 pub mod CandidateSteps
-pub mod CandidateLaws
 pub mod PrefixSteps
-pub mod PrefixLaws
-pub mod Examples

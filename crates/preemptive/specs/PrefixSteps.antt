@@ -1,19 +1,21 @@
 -- The turns of the loop in which one candidate after the other leaves.
 use mathlib.Core.Path.{_≡_, refl, sym, _∙_}
 use mathlib.Core.Bool.{Bool, true, false}
-use mathlib.Core.List.{List, [], _∷_, map}
+use mathlib.Core.List.{List, [], _∷_, _++_, map}
 use Prim.Native.Nat.{ℕ, _+_, _-_, _<_}
 use native.Mathlib.Omega.{arith}
-use lib.ListN.{length, getD, take}
+use lib.ListN.{length, getD, take, set}
 use lib.Ieee.{Float}
 use borrow.Author.Tests.{le-leb, lt-leb}
 use Rattle.laws.specs.Lists.{pad-take}
 use Rattle.laws.specs.Search.{first, first-found, first-next, first-end}
 use Rattle.small.specs.Small.{plusOne}
+use Rattle.model.specs.Job.{noJob}
 use Rattle.model.specs.declared.gpu.Gpu.{Gpu}
 use Rattle.model.specs.declared.job.Job.{Job}
 use Rattle.model.specs.declared.setting.Setting.{Setting}
 use Rattle.mig.specs.Owner.{freed}
+use Rattle.life.specs.Life.{evicted}
 use Rattle.eligible.specs.More.{take-next}
 use Rattle.eligible.specs.Chosen.{chosen}
 use Rattle.eligible.specs.declared.chosen.Chosen.{Chosen}
@@ -21,7 +23,18 @@ use Rattle.resource.specs.Cause.{placeable}
 use Rattle.preemptive.specs.Candidate.{candidates}
 use Rattle.preemptive.specs.Prefix.{freedAll, evictedAll, opens, shortest, made, preempted}
 use Rattle.preemptive.specs.declared.prefix.Preempted.{Preempted}
-use Rattle.preemptive.specs.PrefixLaws.{freed-append, evicted-append}
+
+-- two lists in a row
+pub freed-append : (gpus : List Gpu) (vs ws : List ℕ) → freedAll gpus (vs ++ ws) ≡ freedAll (freedAll gpus vs) ws
+unfolding freedAll
+freed-append gpus [] ws = refl
+freed-append gpus (v ∷ vs) ws = freed-append (map (freed (plusOne v)) gpus) vs ws
+
+-- two lists in a row
+pub evicted-append : (clock : Float) (jobs : List Job) (vs ws : List ℕ) → evictedAll clock jobs (vs ++ ws) ≡ evictedAll clock (evictedAll clock jobs vs) ws
+unfolding evictedAll
+evicted-append clock jobs [] ws = refl
+evicted-append clock jobs (v ∷ vs) ws = evicted-append clock (set jobs v (evicted (getD jobs v noJob) clock)) vs ws
 
 -- the tables when the first k have left, with none of these prefixes enough
 pub record Tried (s : Setting) (clock : Float) (gpus : List Gpu) (jobs : List Job) (j : Job) (cs : List ℕ) (k : ℕ) (free : List Gpu) (left : List Job) : Type 0 where

@@ -21,19 +21,19 @@ use Rattle.life.specs.Life.{timed}
 use Rattle.eligible.specs.More.{only-length}
 use Rattle.line.specs.Keep.{waitsAt, stillWaiting}
 use Rattle.line.specs.Line.{newLine}
-use Rattle.line.specs.LineLaws.{Sized, victimsOf, new-sized}
+use Rattle.apart.specs.LineLaws.{Sized, victimsOf, new-sized}
 use Rattle.line.specs.declared.join.Line.{Line}
 use Rattle.room.specs.declared.ahead.Ahead.{Ahead}
 use Rattle.starts.specs.Timeout.{timeoutsQueued}
 use Rattle.starts.specs.Begin.{begunAll}
-use Rattle.starts.specs.StartsLaws.{jobsOf}
+use Rattle.apart.specs.StartsLaws.{jobsOf}
 use Rattle.starts.specs.declared.begin.Placing.{Placing}
 use Rattle.starts.specs.declared.begin.Begun.{Begun}
 use Rattle.pass.specs.Visit.{newPass}
 use Rattle.pass.specs.Walk.{sorted, walked}
-use Rattle.pass.specs.Standing.{Standing, InState, placedOf, few}
-use Rattle.pass.specs.Keeps.{Kept}
-use Rattle.pass.specs.PassLaws.{pass-keeps, pass-standing}
+use Rattle.apart.specs.Standing.{Standing, InState, placedOf, few}
+use Rattle.apart.specs.Keeps.{Kept}
+use Rattle.apart.specs.PassLaws.{pass-keeps, pass-standing}
 use Rattle.pass.specs.declared.visit.Pass.{Pass}
 use Rattle.happen.specs.declared.Moment.{Moment}
 use Rattle.engine.specs.Settle.{passOf, startsOf, withPass, settled}

@@ -2,4 +2,3 @@
 pub mod Turns
 pub mod Timeout
 pub mod Begin
-pub mod StartsLaws

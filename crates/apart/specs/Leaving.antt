@@ -28,13 +28,13 @@ use Rattle.resource.specs.Cause.{mostOf, placeable}
 use Rattle.resource.specs.Allocate.{wholeAllocated, slicesGot, allocated}
 use Rattle.resource.specs.declared.allocate.Allocation.{Allocation}
 use Rattle.preemptive.specs.Candidate.{candidates}
-use Rattle.preemptive.specs.CandidateLaws.{MakesWay}
+use Rattle.apart.specs.CandidateLaws.{MakesWay}
 use Rattle.preemptive.specs.Prefix.{freedAll, evictedAll, preempted}
-use Rattle.preemptive.specs.PrefixLaws.{preempted-victims, preempted-tables, victims-distinct, victims-in}
+use Rattle.apart.specs.PrefixLaws.{preempted-victims, preempted-tables, victims-distinct, victims-in}
 use Rattle.preemptive.specs.declared.prefix.Preempted.{Preempted}
 use Rattle.pass.specs.Visit.{madeWay}
-use Rattle.pass.specs.Standing.{jobAt, InState, cleared}
+use Rattle.apart.specs.Standing.{jobAt, InState, cleared}
 use Rattle.pass.specs.declared.visit.Pass.{Pass}
 
 -- ---- lengths
 

@@ -13,13 +13,13 @@ use Rattle.log.specs.Log.{decisions}
 use Rattle.log.specs.declared.Decision.{Decision}
 use Rattle.log.specs.declared.Kind.the-variants.{Evicted}
 use Rattle.eligible.specs.More.{map-append}
-use Rattle.line.specs.LineLaws.{victimsOf, evictionTold, joins-count, joins-decisions}
+use Rattle.apart.specs.LineLaws.{victimsOf, evictionTold, joins-count, joins-decisions}
 use Rattle.preemptive.specs.Prefix.{evictedAll}
 use Rattle.pass.specs.Visit.{placedAs}
-use Rattle.pass.specs.Standing.{Standing, InState, cleared, clear-room, clear-evicted, clear-behind}
-use Rattle.pass.specs.Leaving.{MayLeave, may-run}
-use Rattle.pass.specs.Keeps.{Kept, placing}
+use Rattle.apart.specs.Standing.{Standing, InState, cleared, clear-room, clear-evicted, clear-behind}
+use Rattle.apart.specs.Leaving.{MayLeave, may-run}
+use Rattle.apart.specs.Keeps.{Kept, placing}
 use Rattle.pass.specs.declared.visit.Pass.{Pass}
 
 -- told were the decisions as the pass began, n of them; the evictions follow, at the clock, one for each victim
 pub record Told (clock : Float) (told : List Decision) (n : ℕ) (p : Pass) : Type 0 where

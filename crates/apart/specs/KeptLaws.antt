@@ -17,14 +17,14 @@ use Rattle.model.specs.declared.job.Job.{Job}
 use Rattle.model.specs.declared.setting.Setting.{Setting}
 use Rattle.life.specs.Life as Life
 use Rattle.line.specs.Keep.{waits}
-use Rattle.line.specs.LineLaws.{Sized, victimsOf, joins-sized, joins-ok}
+use Rattle.apart.specs.LineLaws.{Sized, victimsOf, joins-sized, joins-ok}
 use Rattle.preemptive.specs.Prefix.{evictedAll}
-use Rattle.preemptive.specs.PrefixLaws.{freed-length, evicted-length, evicted-ask}
+use Rattle.apart.specs.PrefixLaws.{freed-length, evicted-length, evicted-ask}
 use Rattle.pass.specs.Visit.{allocation, placedAs, settled, madeWay, preempting, considered, visited}
 use Rattle.pass.specs.Walk.{sorted, visitAt, walked}
-use Rattle.pass.specs.Standing.{jobAt, cleared}
-use Rattle.pass.specs.Leaving.{allocated-length, sorted-length, preemption, leaving, way-cleared}
+use Rattle.apart.specs.Standing.{jobAt, cleared}
+use Rattle.apart.specs.Leaving.{allocated-length, sorted-length, preemption, leaving, way-cleared}
 use Rattle.pass.specs.declared.visit.Pass.{Pass}
 
 -- ---- a principle: what any placing and any leaving keeps
 

@@ -17,12 +17,12 @@ use Rattle.model.specs.declared.job.JobState.{JobState}
 use Rattle.model.specs.declared.job.JobState.the-variants.{Pending, Waiting, Placed, Running, Finished, Failed}
 use Rattle.model.specs.declared.setting.Setting.{Setting}
 use Rattle.line.specs.Keep.{waitsIn, waits}
-use Rattle.line.specs.LineLaws.{victimsOf}
+use Rattle.apart.specs.LineLaws.{victimsOf}
 use Rattle.pass.specs.Visit.{allocation, placedAs, settled, madeWay, preempting, considered, visited}
 use Rattle.pass.specs.Walk.{sorted, visitAt, walked}
-use Rattle.pass.specs.Standing.{Standing, Looked, jobAt, cleared, place-standing, clear-standing, clear-looked}
-use Rattle.pass.specs.Leaving.{allocated-length, sorted-length, preemption, leaving, MayLeave, leaving-may, leaving-once, may-run, way-cleared}
+use Rattle.apart.specs.Standing.{Standing, Looked, jobAt, cleared, place-standing, clear-standing, clear-looked}
+use Rattle.apart.specs.Leaving.{allocated-length, sorted-length, preemption, leaving, MayLeave, leaving-may, leaving-once, may-run, way-cleared}
 use Rattle.pass.specs.declared.visit.Pass.{Pass}
 
 -- a state in which a job waits is that one
 waits-only : (s : JobState) → waitsIn s ≡ true → s ≡ Waiting

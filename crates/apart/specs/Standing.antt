@@ -23,15 +23,15 @@ use Rattle.cluster.specs.Usage.{runs}
 use Rattle.eligible.specs.More.{map-append}
 use Rattle.line.specs.Line.{joinedAll}
 use Rattle.line.specs.Keep.{waitsIn}
-use Rattle.line.specs.LineLaws.{Sized, victimsOf, joins-sized, joins-evicted, joins-victims}
+use Rattle.apart.specs.LineLaws.{Sized, victimsOf, joins-sized, joins-evicted, joins-victims}
 use Rattle.preemptive.specs.Prefix.{freedAll, evictedAll}
-use Rattle.preemptive.specs.PrefixLaws.{freed-length, evicted-length, evicted-other, evicted-in}
-use Rattle.starts.specs.StartsLaws.{jobsOf}
+use Rattle.apart.specs.PrefixLaws.{freed-length, evicted-length, evicted-other, evicted-in}
+use Rattle.apart.specs.StartsLaws.{jobsOf}
 use Rattle.starts.specs.declared.begin.Placing.{Placing}
 use Rattle.resource.specs.declared.allocate.Allocation.{Allocation}
-use Rattle.pass.specs.Few.{apart-has, has-apart, distinct-few}
+use Rattle.apart.specs.Few.{apart-has, has-apart, distinct-few}
 use Rattle.pass.specs.Visit.{placedAs}
 use Rattle.pass.specs.declared.visit.Pass.{Pass}
 
 -- the job with a number, as it stands now
 abbrev pub jobAt : Pass → ℕ → Job

@@ -18,13 +18,13 @@ use Rattle.life.specs.Life as Life
 use Rattle.cluster.specs.Usage.{runs}
 use Rattle.cluster.specs.Usage as Usage
 use Rattle.line.specs.Keep.{waitsIn}
-use Rattle.line.specs.LineLaws.{victimsOf}
-use Rattle.pass.specs.Few.{apart-has}
+use Rattle.apart.specs.LineLaws.{victimsOf}
+use Rattle.apart.specs.Few.{apart-has}
 use Rattle.pass.specs.Visit.{allocation}
-use Rattle.pass.specs.Standing.{Standing, Looked, InState, jobAt, placedOf, cleared, states-apart, looked-apart, place-other, place-it, place-behind, place-line, clear-other, clear-it, clear-behind, clear-places}
-use Rattle.pass.specs.Leaving.{MayLeave, may-run}
-use Rattle.pass.specs.Keeps.{Kept, placing}
+use Rattle.apart.specs.Standing.{Standing, Looked, InState, jobAt, placedOf, cleared, states-apart, looked-apart, place-other, place-it, place-behind, place-line, clear-other, clear-it, clear-behind, clear-places}
+use Rattle.apart.specs.Leaving.{MayLeave, may-run}
+use Rattle.apart.specs.Keeps.{Kept, placing}
 use Rattle.pass.specs.declared.visit.Pass.{Pass}
 
 -- jobs is the table as the pass began: a victim ran and was evicted, a placed job waited and is placed, every other is as it was
 pub record Changes (clock : Float) (jobs : List Job) (p : Pass) : Type 0 where

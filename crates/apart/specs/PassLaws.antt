@@ -10,17 +10,17 @@ use Rattle.model.specs.declared.gpu.Gpu.{Gpu}
 use Rattle.model.specs.declared.job.Job.{Job}
 use Rattle.model.specs.declared.setting.Setting.{Setting}
 use Rattle.log.specs.Log.{decisions}
-use Rattle.line.specs.LineLaws.{Sized, victimsOf}
+use Rattle.apart.specs.LineLaws.{Sized, victimsOf}
 use Rattle.line.specs.declared.join.Line.{Line}
 use Rattle.starts.specs.Begin.{noPlacing}
 use Rattle.pass.specs.Visit.{newPass}
 use Rattle.pass.specs.Walk.{sorted, walked}
-use Rattle.pass.specs.Standing.{Standing, placedOf, all-below, few}
-use Rattle.pass.specs.Keeps.{Kept, walk-keeps}
-use Rattle.pass.specs.Changes.{Changes, changes-kept}
-use Rattle.pass.specs.Told.{Told, told-kept}
-use Rattle.pass.specs.KeptLaws.{Asks, walk-asks}
+use Rattle.apart.specs.Standing.{Standing, placedOf, all-below, few}
+use Rattle.apart.specs.Keeps.{Kept, walk-keeps}
+use Rattle.apart.specs.Changes.{Changes, changes-kept}
+use Rattle.apart.specs.Told.{Told, told-kept}
+use Rattle.apart.specs.KeptLaws.{Asks, walk-asks}
 use Rattle.pass.specs.declared.visit.Pass.{Pass}
 
 module _ (s : Setting) (clock : Float) (gpus : List Gpu) (jobs : List Job) (line : Line) (gpus-size : length gpus ≡ 128) (jobs-size : length jobs ≡ 128) (line-size : Sized line) (begins : line .evicted ≡ 0) where
   nobody : victimsOf line ≡ []

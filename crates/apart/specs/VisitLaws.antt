@@ -11,17 +11,17 @@ use Rattle.laws.specs.Search.{has}
 use Rattle.small.specs.Small.{plusOne}
 use Rattle.model.specs.declared.setting.Setting.{Setting}
 use Rattle.line.specs.Keep.{waitsIn, waits}
-use Rattle.line.specs.LineLaws.{victimsOf}
+use Rattle.apart.specs.LineLaws.{victimsOf}
 use Rattle.resource.specs.Cause.{placeable}
 use Rattle.resource.specs.AllocateLaws.{placed-placeable}
 use Rattle.preemptive.specs.Candidate.{candidates}
 use Rattle.preemptive.specs.Prefix.{opens}
-use Rattle.preemptive.specs.PrefixLaws.{preempted-count, preempted-opens}
+use Rattle.apart.specs.PrefixLaws.{preempted-count, preempted-opens}
 use Rattle.pass.specs.Visit.{allocation, placedAs, madeWay, preempting, considered, visited, settled-placed, preempting-none, preempting-some, considered-placed, considered-whole, considered-mig, visited-other, visited-victim, visited-waiting}
-use Rattle.pass.specs.Standing.{Looked, jobAt, cleared}
-use Rattle.pass.specs.Leaving.{preemption, leaving, way-cleared}
-use Rattle.pass.specs.Keeps.{placing}
+use Rattle.apart.specs.Standing.{Looked, jobAt, cleared}
+use Rattle.apart.specs.Leaving.{preemption, leaving, way-cleared}
+use Rattle.apart.specs.Keeps.{placing}
 use Rattle.pass.specs.declared.visit.Pass.{Pass}
 
 module _ (s : Setting) (clock : Float) (p : Pass) (id : ℕ) where
   -- a job that does not wait is not looked at

@@ -21,9 +21,9 @@ use Rattle.model.specs.declared.setting.Setting.{Setting}
 use Rattle.mig.specs.Owner.{freed}
 use Rattle.life.specs.Life.{evicted}
 use Rattle.resource.specs.Cause.{placeable}
 use Rattle.preemptive.specs.Candidate.{candidates}
-use Rattle.preemptive.specs.CandidateLaws.{MakesWay, candidates-in, candidates-distinct}
+use Rattle.apart.specs.CandidateLaws.{MakesWay, candidates-in, candidates-distinct}
 use Rattle.preemptive.specs.Prefix.{freedAll, evictedAll, opens, shortest, made, preempted}
 
 -- ---- the shortest nonempty prefix that helps
 
@@ -120,12 +120,6 @@ module _ (s : Setting) (clock : Float) (gpus : List Gpu) (jobs : List Job) (j : 
 
 -- ---- jobs that leave one after the other: the GPUs
 
--- two lists in a row
-pub freed-append : (gpus : List Gpu) (vs ws : List ℕ) → freedAll gpus (vs ++ ws) ≡ freedAll (freedAll gpus vs) ws
-unfolding freedAll
-freed-append gpus [] ws = refl
-freed-append gpus (v ∷ vs) ws = freed-append (map (freed (plusOne v)) gpus) vs ws
-
 -- as many GPUs as before
 pub freed-length : (gpus : List Gpu) (vs : List ℕ) → length (freedAll gpus vs) ≡ length gpus
 unfolding freedAll
@@ -147,12 +141,6 @@ freed-each P f gpus (v ∷ vs) h =
 -- ---- the jobs
 
 module _ (clock : Float) where
-  -- two lists in a row
-  pub evicted-append : (jobs : List Job) (vs ws : List ℕ) → evictedAll clock jobs (vs ++ ws) ≡ evictedAll clock (evictedAll clock jobs vs) ws
-  unfolding evictedAll
-  evicted-append jobs [] ws = refl
-  evicted-append jobs (v ∷ vs) ws = evicted-append (set jobs v (evicted (getD jobs v noJob) clock)) vs ws
-
   -- as many jobs as before
   pub evicted-length : (jobs : List Job) (vs : List ℕ) → length (evictedAll clock jobs vs) ≡ length jobs
   unfolding evictedAll
