@@ -98,7 +98,7 @@ pends-set events events' jobs id j b f p h i =
 -- ---- an arrival
 
 -- a job that has not arrived is pending
-not-came : (st : JobState) → came st ≡ 0 → st ≡ Pending
+pub not-came : (st : JobState) → came st ≡ 0 → st ≡ Pending
 not-came Pending c = refl
 not-came Waiting c = absurd (omega arith)
 not-came Placed c = absurd (omega arith)

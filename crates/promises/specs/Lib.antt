@@ -15,3 +15,4 @@ pub mod Happens
 pub mod Steps
 pub mod LoadedBetween
 pub mod Conditions
+pub mod Owning

@@ -39,7 +39,7 @@ module _ (jobs₀ : List Job) (k : ℕ) (h : List Decision) (p : Plan) (b : Betw
   inside-room = used-inside (p .events) (b .counted .size) (least (p .events)) has
 
   -- the event is taken, and one more step
-  event-taken : Between jobs₀ (k + 1) h (withEvent p)
+  pub event-taken : Between jobs₀ (k + 1) h (withEvent p)
   unfolding withEvent taken hasEvent nextEvent
   event-taken =
       let u : _ = taken-use (p .events) (b .counted .size) (least (p .events)) inside-room has in
@@ -71,13 +71,18 @@ module _ (jobs₀ : List Job) (k : ℕ) (h : List Decision) (p : Plan) (b : Betw
   unfolding withEvent
   same-setting = refl
 
-  arrival-amid : nextEvent p .kind ≡ Arrival → Amid jobs₀ (k + 1) h (arrives (withEvent p) (nextEvent p .job))
-  arrival-amid e =
+  -- a job whose arrival is taken is loaded, has no other arrival ahead, and had not arrived
+  pub arrival-facts : nextEvent p .kind ≡ Arrival → (nextEvent p .job < p .setting .jobs) × (arriving (nextEvent p .job) (withEvent p .events) ≡ 0) × (came (jobAt (p .jobs) (nextEvent p .job) .state) ≡ 0)
+  arrival-facts e =
       let id : ℕ = nextEvent p .job in
       let t : arriving id (withEvent p .events) + 1 ≡ arriving id (p .events) = arrival-taken e in
       let n : p .setting .jobs ≤ id → ⊥ = λ past. let z : arriving id (p .events) ≡ 0 = b .inside id past in omega (arith, z, t) in
-      let below : id < p .setting .jobs = ⊎-elim (λ past. absurd (n past)) (λ inside. inside) (le-or-lt (p .setting .jobs) id) in
-      arrives-amid jobs₀ (k + 1) h (withEvent p) id (omega arith) event-taken (rw same-setting below) (omega (arith, t, b .pends id)) (rw same-jobs (omega (arith, t, b .pends id)))
+      (⊎-elim (λ past. absurd (n past)) (λ inside. inside) (le-or-lt (p .setting .jobs) id), omega (arith, t, b .pends id), omega (arith, t, b .pends id))
+
+  arrival-amid : nextEvent p .kind ≡ Arrival → Amid jobs₀ (k + 1) h (arrives (withEvent p) (nextEvent p .job))
+  arrival-amid e =
+      let f : (nextEvent p .job < p .setting .jobs) × (arriving (nextEvent p .job) (withEvent p .events) ≡ 0) × (came (jobAt (p .jobs) (nextEvent p .job) .state) ≡ 0) = arrival-facts e in
+      arrives-amid jobs₀ (k + 1) h (withEvent p) (nextEvent p .job) (omega arith) event-taken (rw same-setting (f .0)) (f .1) (rw same-jobs (f .2))
 
   -- by the kind of the event
   kind-amid : (kind : EventKind) → nextEvent p .kind ≡ kind → Amid jobs₀ (k + 1) h (byKind kind (withEvent p) (nextEvent p))
@@ -145,10 +150,13 @@ stays-event : (p : Plan) → withEvent p .setting ≡ p .setting
 unfolding withEvent
 stays-event p = refl
 
+pub happened-setting : (p : Plan) → happened (withEvent p) (nextEvent p) .plan .setting ≡ p .setting
+happened-setting p = stays-kind (nextEvent p .kind) (withEvent p) (nextEvent p) ∙ stays-event p
+
 -- No step changes the setting.
 pub setting-stays : (p : Plan) → advanced p .plan .setting ≡ p .setting
 unfolding advanced
 setting-stays p =
     let m : Moment = happened (withEvent p) (nextEvent p) in
-    let e : m .plan .setting ≡ p .setting = stays-kind (nextEvent p .kind) (withEvent p) (nextEvent p) ∙ stays-event p in
+    let e : m .plan .setting ≡ p .setting = happened-setting p in
     pick-either (λ (x : Moment). x .plan .setting ≡ p .setting) (m .goes) (settled m) m (stays-settled m ∙ e) e
