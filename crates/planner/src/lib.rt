@@ -73,9 +73,9 @@ pub fn step(plan: Plan, decisions: &mut [u64]) -> Stepped
     }
     if has_event(plan) {
         let m = advance(plan);
+        let after = m.plan;
         if m.ok {
             let log = m.log;
-            let after = m.plan;
             let table = log.table;
             write_words(decisions, table, log.count);
             return Stepped {

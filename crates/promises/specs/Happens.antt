@@ -52,7 +52,7 @@ empty-table : length (emptyLog .table) ≡ 129
 unfolding emptyLog
 empty-table = length-replicate 129 noDecision
 
-empty-told : decisions emptyLog ≡ []
+pub empty-told : decisions emptyLog ≡ []
 unfolding emptyLog
 empty-told = refl
 
@@ -65,7 +65,7 @@ unfolding told emptyLog
 one-count time kind job other = omega arith
 
 -- one decision is told, at the clock
-one-told : (p : Plan) (kind : Kind) (job other : ℕ) → decisions (told emptyLog (bitsOf (p .clock)) kind job other) ≡ record { time = bitsOf (p .clock); kind = kind; job = job; other = other } ∷ []
+pub one-told : (p : Plan) (kind : Kind) (job other : ℕ) → decisions (told emptyLog (bitsOf (p .clock)) kind job other) ≡ record { time = bitsOf (p .clock); kind = kind; job = job; other = other } ∷ []
 unfolding emptyLog
 one-told p kind job other =
     let d : Decision = record { time = bitsOf (p .clock); kind = kind; job = job; other = other } in

@@ -16,3 +16,4 @@ pub mod Steps
 pub mod LoadedBetween
 pub mod Conditions
 pub mod Owning
+pub mod StepPrefixes

@@ -22,10 +22,10 @@ same-length : tie.Need-same-length
 same-length c = search needs
 
 returns-2 : tie.Need-returns-2
-returns-2 c = done-taken (c .before .before .before .before .before .before .before .before .before .before .before .before .before .args .plan) (c .before .before .before .before .before .before .before .before .before .before .before .before .before .args .decisions .now) (omega arith) (sym (c .before .before .before .before .before .before .before .before .before .before .has-event .ensures) ∙ c .before .before .before .before .before .before .before .before .before .if2 .taken) (c .before .before .before .before .before .before .before .before .advance .result) (c .before .before .before .before .before .before .before .before .advance .ensures) _ (c .before .before .before .before .before .before .before .if3 .taken) (c .before .before .write-words .ensures)
+returns-2 c = done-taken (c .before .before .before .before .before .before .before .before .before .before .before .before .before .args .plan) (c .before .before .before .before .before .before .before .before .before .before .before .before .before .args .decisions .now) (omega arith) (sym (c .before .before .before .before .before .before .before .before .before .before .has-event .ensures) ∙ c .before .before .before .before .before .before .before .before .before .if2 .taken) (c .before .before .before .before .before .before .before .before .advance .result) (c .before .before .before .before .before .before .before .before .advance .ensures) _ (c .before .before .before .before .before .before .if3 .taken) (c .before .before .write-words .ensures)
 
 returns-3 : tie.Need-returns-3
-returns-3 c = done-barred (c .before .before .before .before .before .before .args .plan) (c .before .before .before .before .before .before .args .decisions .now) (omega arith) (sym (c .before .before .before .has-event .ensures) ∙ c .before .before .if2 .taken) (c .before .advance .result) (c .before .advance .ensures) (c .if3 .left)
+returns-3 c = done-barred (c .before .before .before .before .before .before .before .args .plan) (c .before .before .before .before .before .before .before .args .decisions .now) (omega arith) (sym (c .before .before .before .before .has-event .ensures) ∙ c .before .before .before .if2 .taken) (c .before .before .advance .result) (c .before .before .advance .ensures) (c .if3 .left)
 
 returns-4 : tie.Need-returns-4
 returns-4 c = done-none (c .before .before .before .before .args .plan) (c .before .before .before .before .args .decisions .now) (omega arith) (sym (c .before .has-event .ensures) ∙ c .if2 .left)
