@@ -23,7 +23,7 @@ use Rattle.life.specs.Life as Life
 use Rattle.cluster.specs.Usage.{runs, placed, holding, chargeOf, chargeTo, usage}
 use Rattle.cluster.specs.UsageLaws.{charge-none, charge-other, charge-own, usage-set, usage-past}
 use Rattle.resource.specs.Quota.{keptQuota, withinQuota}
-use Rattle.history.specs.Good.{jobAt, Fits, Own, JobOk, Good, begun, quiet, speak, no-more}
+use Rattle.history.specs.Good.{jobAt, Fits, Own, JobOk, Good, begun, came, quiet, speak, no-more}
 
 -- a job in a state other than that of no job is in the table
 pub in-table : (jobs : List Job) (k : ℕ) → length jobs ≡ 128 → (jobAt jobs k .state ≡ Pending → ⊥) → k < 128
@@ -87,6 +87,21 @@ start-charge : (jobs : List Job) (k : ℕ) (at : Float) (tenant : ℕ) → jobAt
 unfolding Life.started holding
 start-charge jobs k at tenant e = charge-same tenant (Life.started (jobAt jobs k) at) (jobAt jobs k) refl (sym (ap holds-in e))
 
+-- a generation rises by one at most
+raised-few : (n : ℕ) (b : Bool) → Life.raised n b ≤ n + 1
+raised-few n true = omega arith
+raised-few n false = omega arith
+
+-- an arrival raises the timeout generation by one at most
+waits-timeouts : (j : Job) (clock : Float) → j .state ≡ Pending → j .timeouts ≤ came (j .state) + j .run → Life.waits j clock .timeouts ≤ 1 + Life.waits j clock .run
+unfolding Life.waits
+waits-timeouts j clock e h = let q : j .timeouts ≤ 0 + j .run = rw e at h in omega (arith, q, raised-few (j .timeouts) (Life.timed (j .ask)))
+
+-- and so does a start
+started-timeouts : (j : Job) (at : Float) → j .state ≡ Placed → j .run < 9 → j .timeouts ≤ came (j .state) + j .run → Life.started j at .timeouts ≤ 1 + Life.started j at .run
+unfolding Life.started
+started-timeouts j at e l h = let q : j .timeouts ≤ 1 + j .run = rw e at h in let m : (j .run + 1) % 2 ^ 32 ≡ j .run + 1 = omega (arith, l) in omega (arith, q, m, raised-few (j .timeouts) (j .ask .gang))
+
 module _ (s : Setting) (jobs₀ jobs : List Job) (h : List Decision) (g : Good s jobs₀ jobs h) (k time other : ℕ) where
   -- a job in a state that holds nothing costs nobody anything
   nothing-held : (j : Job) → holding j ≡ false → (tenant : ℕ) → chargeTo tenant j ≤ chargeTo tenant (jobAt jobs k)
@@ -99,7 +114,7 @@ module _ (s : Setting) (jobs₀ jobs : List Job) (h : List Decision) (g : Good s
       speak s jobs₀ jobs h g k (Life.waits (jobAt jobs k) clock)
       (record { time = time; kind = Kinds.Arrived; job = k; other = other })
       refl b refl
-      (record { run-is = let r : jobAt jobs k .run ≡ jobAt jobs k .evictions + begun (jobAt jobs k .state) = g .each k .run-is in rw e at r; few = g .each k .few })
+      (record { run-is = let r : jobAt jobs k .run ≡ jobAt jobs k .evictions + begun (jobAt jobs k .state) = g .each k .run-is in rw e at r; few = g .each k .few; waits-few = waits-timeouts (jobAt jobs k) clock e (g .each k .waits-few) })
       (omega arith) (omega arith)
       (sym (ap runs e))
       (no-more s jobs₀ jobs h g k (Life.waits (jobAt jobs k) clock) (nothing-held (Life.waits (jobAt jobs k) clock) refl))
@@ -112,7 +127,7 @@ module _ (s : Setting) (jobs₀ jobs : List Job) (h : List Decision) (g : Good s
       speak s jobs₀ jobs h g k (Life.fails (jobAt jobs k) clock)
       (record { time = time; kind = Kinds.Failed; job = k; other = other })
       refl b refl
-      (record { run-is = let r : jobAt jobs k .run ≡ jobAt jobs k .evictions + begun (jobAt jobs k .state) = g .each k .run-is in rw e at r; few = g .each k .few })
+      (record { run-is = let r : jobAt jobs k .run ≡ jobAt jobs k .evictions + begun (jobAt jobs k .state) = g .each k .run-is in rw e at r; few = g .each k .few; waits-few = let q : jobAt jobs k .timeouts ≤ came (jobAt jobs k .state) + jobAt jobs k .run = g .each k .waits-few in rw e at q })
       (omega arith) (omega arith)
       (sym (ap runs e))
       (no-more s jobs₀ jobs h g k (Life.fails (jobAt jobs k) clock) (nothing-held (Life.fails (jobAt jobs k) clock) refl))
@@ -125,7 +140,7 @@ module _ (s : Setting) (jobs₀ jobs : List Job) (h : List Decision) (g : Good s
       speak s jobs₀ jobs h g k (Life.ends (jobAt jobs k))
       (record { time = time; kind = Kinds.Completed; job = k; other = other })
       refl b refl
-      (record { run-is = let r : jobAt jobs k .run ≡ jobAt jobs k .evictions + begun (jobAt jobs k .state) = g .each k .run-is in rw e at r; few = g .each k .few })
+      (record { run-is = let r : jobAt jobs k .run ≡ jobAt jobs k .evictions + begun (jobAt jobs k .state) = g .each k .run-is in rw e at r; few = g .each k .few; waits-few = let q : jobAt jobs k .timeouts ≤ came (jobAt jobs k .state) + jobAt jobs k .run = g .each k .waits-few in rw e at q })
       (omega arith) (omega arith)
       refl
       (no-more s jobs₀ jobs h g k (Life.ends (jobAt jobs k)) (nothing-held (Life.ends (jobAt jobs k)) refl))
@@ -139,7 +154,7 @@ module _ (s : Setting) (jobs₀ jobs : List Job) (h : List Decision) (g : Good s
       speak s jobs₀ jobs h g k (Life.evicted (jobAt jobs k) clock)
       (record { time = time; kind = Kinds.Evicted; job = k; other = other })
       refl b refl
-      (record { run-is = omega (arith, r, l); few = omega (arith, l) })
+      (record { run-is = omega (arith, r, l); few = omega (arith, l); waits-few = let q : jobAt jobs k .timeouts ≤ came (jobAt jobs k .state) + jobAt jobs k .run = g .each k .waits-few in rw e at q })
       (omega (arith, l)) (omega arith)
       refl
       (no-more s jobs₀ jobs h g k (Life.evicted (jobAt jobs k) clock) (nothing-held (Life.evicted (jobAt jobs k) clock) refl))
@@ -154,7 +169,7 @@ module _ (s : Setting) (jobs₀ jobs : List Job) (h : List Decision) (g : Good s
       speak s jobs₀ jobs h g k (Life.started (jobAt jobs k) at)
       (record { time = time; kind = Kinds.Started; job = k; other = other })
       refl b refl
-      (record { run-is = omega (arith, r, f); few = f })
+      (record { run-is = omega (arith, r, f); few = f; waits-few = started-timeouts (jobAt jobs k) at e (omega (arith, r, f)) (g .each k .waits-few) })
       (omega arith) (omega (arith, r, f))
       refl
       (no-more s jobs₀ jobs h g k (Life.started (jobAt jobs k) at) (λ tenant. let c : chargeTo tenant (Life.started (jobAt jobs k) at) ≡ chargeTo tenant (jobAt jobs k) = start-charge jobs k at tenant e in omega (arith, c)))
@@ -166,7 +181,7 @@ module _ (s : Setting) (jobs₀ jobs : List Job) (h : List Decision) (g : Good s
   good-placed b e q =
       quiet s jobs₀ jobs h g k (Life.placed (jobAt jobs k))
       b refl
-      (record { run-is = let r : jobAt jobs k .run ≡ jobAt jobs k .evictions + begun (jobAt jobs k .state) = g .each k .run-is in rw e at r; few = g .each k .few })
+      (record { run-is = let r : jobAt jobs k .run ≡ jobAt jobs k .evictions + begun (jobAt jobs k .state) = g .each k .run-is in rw e at r; few = g .each k .few; waits-few = let q : jobAt jobs k .timeouts ≤ came (jobAt jobs k .state) + jobAt jobs k .run = g .each k .waits-few in rw e at q })
       refl refl
       (sym (ap runs e))
       (λ tenant z. place-fits s jobs k (Life.placed (jobAt jobs k)) (g .size) b (ap holds-in e) refl refl q tenant z (g .within tenant z))

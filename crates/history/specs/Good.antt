@@ -59,9 +59,19 @@ begun Running = 1
 begun Finished = 1
 begun Failed = 0
 
+-- a job that has arrived
+abbrev pub came : JobState → ℕ
+came Pending = 0
+came Waiting = 1
+came Placed = 1
+came Running = 1
+came Finished = 1
+came Failed = 1
+
 pub record JobOk (j : Job) : Type 0 where
   pub run-is : j .run ≡ j .evictions + begun (j .state)
   pub few : j .evictions ≤ 3
+  pub waits-few : j .timeouts ≤ came (j .state) + j .run
 
 -- ---- what holds all along
 

@@ -18,16 +18,7 @@ use Rattle.model.specs.declared.job.JobState.{JobState}
 use Rattle.model.specs.declared.job.JobState.the-variants.{Pending, Waiting, Placed, Running, Finished, Failed}
 use Rattle.life.specs.Life as Life
 use Rattle.life.specs.Life.{timed}
-use Rattle.history.specs.Good.{jobAt, JobOk, begun}
-
--- a job that has arrived
-abbrev pub came : JobState → ℕ
-came Pending = 0
-came Waiting = 1
-came Placed = 1
-came Running = 1
-came Finished = 1
-came Failed = 1
+use Rattle.history.specs.Good.{jobAt, JobOk, begun, came}
 
 -- Its completions, one a start; and, of a gang job with a timeout, one at its arrival and one at each eviction.
 unfoldable pub eventsOf : Job → ℕ

@@ -24,7 +24,7 @@ use Rattle.apart.specs.Keeps.{Kept, placing}
 use Rattle.pass.specs.declared.visit.Pass.{Pass}
 use Rattle.history.specs.Good.{jobAt}
 use Rattle.history.specs.StartsGood.{begun-jobs, still-placed}
-use Rattle.history.specs.Owed.{came}
+use Rattle.history.specs.Good.{came}
 use Rattle.history.specs.PassOwed.{Runs, runs-other}
 
 -- each job has arrived exactly if it had

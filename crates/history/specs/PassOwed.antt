@@ -34,7 +34,8 @@ use Rattle.pass.specs.declared.visit.Pass.{Pass}
 use Rattle.history.specs.Good.{jobAt}
 use Rattle.history.specs.Queued.{timedOne}
 use Rattle.history.specs.StartsGood.{begun-jobs}
-use Rattle.history.specs.Owed.{came, Rest, eventsOf, allEvents, owed-set, owed-evicted, owed-placed, owed-started, rest-below, rest-set}
+use Rattle.history.specs.Owed.{Rest, eventsOf, allEvents, owed-set, owed-evicted, owed-placed, owed-started, rest-below, rest-set}
+use Rattle.history.specs.Good.{came}
 
 -- what is changed keeps what is asked
 evicted-ask : (j : Job) (clock : Float) → Life.evicted j clock .ask ≡ j .ask

@@ -42,7 +42,8 @@ use Rattle.history.specs.PassGood.{PassGood, pass-good}
 use Rattle.history.specs.StartsGood.{Room, starts-good}
 use Rattle.history.specs.Entries.{inUse, arriving}
 use Rattle.history.specs.Queued.{Counted, Grown, timedOne, timeouts-grown, starts-grown}
-use Rattle.history.specs.Owed.{came, Rest, allEvents, all-few}
+use Rattle.history.specs.Owed.{Rest, allEvents, all-few}
+use Rattle.history.specs.Good.{came}
 use Rattle.history.specs.PassOwed.{PassOwed, ToStart, pass-owed, starts-owed}
 use Rattle.history.specs.PassCame.{Came, pass-came, starts-came}
 

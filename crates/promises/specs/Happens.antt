@@ -42,7 +42,8 @@ use Rattle.history.specs.Good.{jobAt, Good}
 use Rattle.history.specs.Changes.{in-table, good-waits, good-fails, good-ends}
 use Rattle.history.specs.Entries.{arriving}
 use Rattle.history.specs.Queued.{Counted, Grown, timeout-grown}
-use Rattle.history.specs.Owed.{came, Rest, allEvents, owed-waits, owed-fails, owed-ends, owed-set, rest-below, rest-set}
+use Rattle.history.specs.Owed.{Rest, allEvents, owed-waits, owed-fails, owed-ends, owed-set, rest-below, rest-set}
+use Rattle.history.specs.Good.{came}
 use Rattle.history.specs.PassOwed.{arrived-not}
 use Rattle.promises.specs.Between.{aheadIn, Between, Amid, nine, still-most}
 

@@ -17,3 +17,4 @@ pub mod LoadedBetween
 pub mod Conditions
 pub mod Owning
 pub mod StepPrefixes
+pub mod Counters

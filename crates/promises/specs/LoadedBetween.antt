@@ -28,7 +28,8 @@ use Rattle.loader.specs.Arrivals.{arrivalOf}
 use Rattle.history.specs.Told.{evictionsOf, startsOf, runsAfter, runsFrom}
 use Rattle.history.specs.Good.{jobAt, JobOk, Good, Now, good-now}
 use Rattle.history.specs.Entries.{inUse, usedOne, isArrival, arrivalOne, arriving, sum-ones}
-use Rattle.history.specs.Owed.{eventsOf, allEvents, came}
+use Rattle.history.specs.Owed.{eventsOf, allEvents}
+use Rattle.history.specs.Good.{came}
 use Rattle.promises.specs.LoadedLaws.{Ready}
 use Rattle.promises.specs.Between.{Between}
 
@@ -47,7 +48,7 @@ new-so : (a : Ask) → New (newJob a)
 unfolding newJob holding eventsOf
 new-so a =
     record {
-      ok = record { run-is = omega arith; few = omega arith };
+      ok = record { run-is = omega arith; few = omega arith; waits-few = omega arith };
       evicted = refl;
       started = refl;
       runs-not = refl;

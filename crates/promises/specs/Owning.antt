@@ -35,7 +35,7 @@ use Rattle.planner.specs.Step.{stepped}
 use Rattle.planner.specs.StepLaws.{accepted-for, accepted-plan}
 use Rattle.history.specs.Good.{jobAt}
 use Rattle.history.specs.Changes.{in-table}
-use Rattle.history.specs.Owed.{came}
+use Rattle.history.specs.Good.{came}
 use Rattle.history.specs.PassOwed.{arrived-not}
 use Rattle.history.specs.Owners.{Owners, Cuts}
 use Rattle.history.specs.OwnersChanges.{owners-arrives, owners-fails, owners-completes}

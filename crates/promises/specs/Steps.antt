@@ -29,7 +29,7 @@ use Rattle.engine.specs.Advance.{nextEvent, hasEvent, withEvent, byKind, happen
 use Rattle.history.specs.Good.{jobAt}
 use Rattle.history.specs.Entries.{isArrival, arrivalOne, arriving, taken-use, taken-arriving, used-inside}
 use Rattle.history.specs.Queued.{Counted}
-use Rattle.history.specs.Owed.{came}
+use Rattle.history.specs.Good.{came}
 use Rattle.promises.specs.Between.{aheadIn, Between, Amid, settled-between}
 use Rattle.promises.specs.Happens.{stale-amid, arrives-amid, completes-amid, fails-amid, runs-only, waits-only}
 
