@@ -1,4 +1,4 @@
-//! The command `generate KIND SEED`, `generate --survey COUNT SEED`, or `generate --frames COUNT SEED`.
+//! The command `generate KIND SEED`, or `generate --survey COUNT SEED`.
 
 use std::io::{self, Write};
 use std::process::ExitCode;
@@ -23,7 +23,6 @@ fn answer(words: &[&str]) -> Result<Vec<u8>, String> {
         ["--survey", count, seed] => {
             Ok(generate::survey::survey(whole(count)?, whole(seed)?).into_bytes())
         }
-        ["--frames", count, seed] => Ok(frames(whole(count)?, whole(seed)?)),
         ["any", seed] => Ok(generate::any(whole(seed)?).1),
         [name, seed] => {
             let kind = generate::Kind::named(name)
@@ -34,21 +33,6 @@ fn answer(words: &[&str]) -> Result<Vec<u8>, String> {
     }
 }
 
-/// Traces one after another, each after its length: by turns of every kind, and mostly damaged ones.
-fn frames(count: u64, seed: u64) -> Vec<u8> {
-    let mut bytes = Vec::new();
-    for number in 0..count {
-        let seed = seed.wrapping_mul(1_000_003).wrapping_add(number);
-        let trace = match number % 2 {
-            0 => generate::any(seed).1,
-            _ => generate::any_to_load(seed).1,
-        };
-        bytes.extend_from_slice(&(trace.len() as u32).to_le_bytes());
-        bytes.extend_from_slice(&trace);
-    }
-    bytes
-}
-
 fn whole(text: &str) -> Result<u64, String> {
     text.parse()
         .map_err(|_| format!("`{text}` is not a whole number"))
@@ -57,7 +41,7 @@ fn whole(text: &str) -> Result<u64, String> {
 fn usage() -> String {
     let names: Vec<&str> = generate::KINDS.iter().map(|row| row.1).collect();
     format!(
-        "usage: generate KIND SEED | generate --survey COUNT SEED | generate --frames COUNT SEED; kinds: any {}",
+        "usage: generate KIND SEED | generate --survey COUNT SEED; kinds: any {}",
         names.join(" ")
     )
 }

@@ -10,6 +10,8 @@ pub const FLAGS: [&str; 5] = ["tie", "choice", "pass_quota", "too_many", "recut"
 pub struct Admit {
     /// the flags that leave a trace out
     pub without: [bool; 5],
+    /// whether a trace in document 01's domain is left out
+    pub beyond: bool,
     /// whether a refused trace is left out
     pub accepted: bool,
 }
@@ -25,6 +27,7 @@ impl Admit {
         Admit {
             without: [true; 5],
             accepted: true,
+            ..Admit::default()
         }
     }
 
@@ -33,6 +36,15 @@ impl Admit {
         Admit {
             without: [false, false, true, true, true],
             accepted: true,
+            ..Admit::default()
+        }
+    }
+
+    /// Of those the ones that hold a tie or a choice, for which the original as published has no one answer.
+    pub fn beyond_domain() -> Admit {
+        Admit {
+            beyond: true,
+            ..Admit::ordered_domain()
         }
     }
 
@@ -55,11 +67,10 @@ impl Admit {
             return true;
         }
         let seen = second::observe(trace);
-        let out = flags(&seen)
-            .iter()
-            .zip(self.without)
-            .any(|(set, left_out)| *set && left_out);
-        !(out || self.accepted && seen.refusal.is_some())
+        let set = flags(&seen);
+        let out = set.iter().zip(self.without).any(|(set, out)| *set && out);
+        let inside = self.beyond && !set.contains(&true);
+        !(out || inside || self.accepted && seen.refusal.is_some())
     }
 }
 
@@ -83,5 +94,6 @@ mod tests {
         assert!(!Admit::domain().admits(&[9]));
         assert!(!Admit::ordered_domain().admits(&[9]));
         assert!(Admit::domain().admits(&[0]));
+        assert!(!Admit::beyond_domain().admits(&[0]));
     }
 }

@@ -23,7 +23,6 @@ fn command(words: &[String], show: Show, batch: bool) -> Command {
         (batch, "--batch"),
         (show.details, "--details"),
         (show.events, "--events"),
-        (show.load, "--load"),
     ] {
         if wanted {
             command.arg(word);

@@ -1,6 +1,6 @@
 //! Two programs over many generated traces, in blocks that threads share.
 
-use crate::admit::Admit;
+use crate::draw::Draw;
 use crate::program::{Program, Show};
 use generate::Kind;
 use std::panic::resume_unwind;
@@ -10,10 +10,7 @@ use std::thread;
 pub struct Contest {
     pub programs: [Program; 2],
     pub show: Show,
-    pub admit: Admit,
-    pub kind: Option<Kind>,
-    pub seed: u64,
-    pub traces: u64,
+    pub draw: Draw,
     pub threads: usize,
 }
 
@@ -49,9 +46,8 @@ impl Contest {
             compared: 0,
             difference: None,
         };
-        // a domain that admits fewer than one in a thousand ends the search
-        let most = self.traces.saturating_mul(1_000).max(100_000);
-        while outcome.compared < self.traces && outcome.generated < most {
+        let Draw { traces, .. } = self.draw;
+        while outcome.compared < traces && outcome.generated < self.draw.most() {
             for verdict in self.block(outcome.generated) {
                 outcome.generated += 1;
                 outcome.compared += u64::from(!matches!(verdict, Verdict::LeftOut));
@@ -59,7 +55,7 @@ impl Contest {
                     outcome.difference = Some(*difference);
                     return outcome;
                 }
-                if outcome.compared == self.traces {
+                if outcome.compared == traces {
                     return outcome;
                 }
             }
@@ -82,11 +78,11 @@ impl Contest {
 
     fn share(&self, from: u64) -> Vec<Verdict> {
         let drawn: Vec<(Kind, Vec<u8>)> = (from..from + SHARE)
-            .map(|number| self.draw(number))
+            .map(|number| self.draw.trace(number))
             .collect();
         let admitted: Vec<bool> = drawn
             .iter()
-            .map(|(_, trace)| self.admit.admits(trace))
+            .map(|(_, trace)| self.draw.admits(trace))
             .collect();
         let list: Vec<&[u8]> = drawn
             .iter()
@@ -115,14 +111,5 @@ impl Contest {
             return verdicts;
         }
         verdicts
-    }
-
-    fn draw(&self, number: u64) -> (Kind, Vec<u8>) {
-        let seed = generate::seed_of(self.seed, number);
-        match self.kind {
-            Some(kind) => (kind, generate::trace(kind, seed)),
-            None if self.show.load => generate::any_to_load(seed),
-            None => generate::any(seed),
-        }
     }
 }

@@ -3,6 +3,8 @@
 mod admit;
 mod child;
 mod contest;
+mod draw;
+mod frames;
 mod program;
 mod reduce;
 mod report;
@@ -11,6 +13,7 @@ mod words;
 
 use contest::{Contest, Difference};
 use program::Program;
+use std::io::Write;
 use std::path::Path;
 use std::process::ExitCode;
 use std::time::Instant;
@@ -24,6 +27,9 @@ fn main() -> ExitCode {
     let list: Vec<String> = std::env::args().skip(1).collect();
     let list: Vec<&str> = list.iter().map(String::as_str).collect();
     let done = match list.as_slice() {
+        ["frames", rest @ ..] => {
+            frames::frames(rest).and_then(|bytes| written(&bytes).map(|()| (String::new(), true)))
+        }
         ["samples", folder] => samples::check(Path::new(folder)).map(|text| (text, true)),
         ["one", rest @ ..] => Words::read(rest).and_then(|words| one(&words)),
         ["reduce", rest @ ..] => Words::read(rest).and_then(|words| smallest(&words)),
@@ -39,6 +45,11 @@ fn main() -> ExitCode {
             ExitCode::from(2)
         }
     }
+}
+
+fn written(bytes: &[u8]) -> Result<(), String> {
+    let done = std::io::stdout().lock().write_all(bytes);
+    done.map_err(|error| error.to_string())
 }
 
 fn tries(programs: &[Program; 2]) -> u32 {
@@ -69,7 +80,7 @@ fn shown(words: &Words, trace: &[u8]) -> String {
 
 fn reduced(words: &Words, trace: &[u8]) -> Vec<u8> {
     reduce::reduce(trace, &mut |smaller| {
-        words.admit.admits(smaller) && differ(words, smaller)
+        words.draw.admits(smaller) && differ(words, smaller)
     })
 }
 
@@ -87,7 +98,7 @@ fn compare(words: &Words) -> Result<(String, bool), String> {
     );
     match &outcome.difference {
         Some(found) => Ok((counted + &told(words, found), false)),
-        None if outcome.compared < words.traces => {
+        None if outcome.compared < words.draw.traces => {
             Err(format!("{counted}too few traces are admitted"))
         }
         None => Ok((counted + "all agree\n", true)),
@@ -98,10 +109,7 @@ fn contest(words: &Words) -> Contest {
     Contest {
         programs: words.programs.clone(),
         show: words.show,
-        admit: words.admit,
-        kind: words.kind,
-        seed: words.seed,
-        traces: words.traces,
+        draw: words.draw,
         threads: words.threads,
     }
 }
@@ -110,7 +118,7 @@ fn told(words: &Words, found: &Difference) -> String {
     let mut text = format!(
         "difference at trace {} of seed {} (kind {})\n",
         found.number,
-        words.seed,
+        words.draw.seed,
         found.kind.name()
     );
     if words.reduce {
@@ -146,7 +154,7 @@ fn one(words: &Words) -> Result<(String, bool), String> {
 
 fn smallest(words: &Words) -> Result<(String, bool), String> {
     let trace = stored(words)?;
-    if !words.admit.admits(&trace) {
+    if !words.draw.admits(&trace) {
         return Err("the trace is not in the domain asked for".to_string());
     }
     if !differ(words, &trace) {

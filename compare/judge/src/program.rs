@@ -10,8 +10,6 @@ use std::panic;
 pub struct Show {
     pub details: bool,
     pub events: bool,
-    /// only what the load makes, in place of the plan
-    pub load: bool,
 }
 
 /// A program by the word that names it.
@@ -85,13 +83,8 @@ pub struct Session<'a> {
 impl Session<'_> {
     /// The output for the next trace of the list, which is given again.
     pub fn next(&mut self, trace: &[u8]) -> String {
-        let Show {
-            details,
-            events,
-            load,
-        } = self.show;
+        let Show { details, events } = self.show;
         match (self.program, &mut self.batch) {
-            (Program::Second, _) if load => guarded(|| second::show_load(trace)),
             (Program::Second, _) => {
                 guarded(|| second::run(trace, second::Show { details, events }))
             }

@@ -74,7 +74,7 @@ fn same(trace: &[u8], expected: &str, program: &Program) -> Result<(), String> {
         trace,
         Show {
             details: true,
-            ..Show::default()
+            events: false,
         },
     );
     let mut lines = detailed.lines();

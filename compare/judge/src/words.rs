@@ -1,8 +1,7 @@
 //! The words of the command.
 
-use crate::admit::Admit;
+use crate::draw::{whole, Draw};
 use crate::program::{Program, Show};
-use generate::Kind;
 
 /// What the command line asks for.
 pub struct Words {
@@ -10,19 +9,18 @@ pub struct Words {
     pub programs: [Program; 2],
     pub file: Option<String>,
     pub show: Show,
-    pub admit: Admit,
-    pub kind: Option<Kind>,
-    pub seed: u64,
-    pub traces: u64,
+    pub draw: Draw,
     pub threads: usize,
     pub reduce: bool,
 }
 
 pub fn usage() -> String {
-    "usage: judge A B [--traces N] [--seed S] [--kind K] [--details] [--events] [--load] \
-     [--domain | --ordered-domain | --without FLAG,.. | --all] [--threads N] [--no-reduce]
-       judge one A B FILE [--details] | judge reduce A B FILE [--details] [--without FLAG,..] | judge samples FOLDER
-       A, B: second, original, original-ordered, batch:PATH, each:PATH"
+    "usage: judge A B [DRAW] [--details] [--events] [--threads N] [--no-reduce]
+       judge one A B FILE [--details] | judge reduce A B FILE [--details] [--without FLAG,..]
+       judge frames [DRAW] [--bare] > FRAMES | judge samples FOLDER
+       A, B: second, original, original-ordered, batch:PATH, each:PATH
+       DRAW: [--traces N] [--seed S] [--kind K | --loads] [--jobs MOST] \
+     [--domain | --ordered-domain | --beyond-domain | --without FLAG,.. | --all]"
         .to_string()
 }
 
@@ -38,10 +36,7 @@ impl Words {
             programs,
             file: None,
             show: Show::default(),
-            admit: Admit::default(),
-            kind: None,
-            seed: 1,
-            traces: 10_000,
+            draw: Draw::default(),
             threads,
             reduce: true,
         };
@@ -61,21 +56,16 @@ impl Words {
         word: &str,
         value: &mut dyn FnMut() -> Result<&'a str, String>,
     ) -> Result<(), String> {
+        if self.draw.take(word, value)? {
+            return Ok(());
+        }
         match word {
             "--details" => self.show.details = true,
             "--events" => {
                 self.show.details = true;
                 self.show.events = true;
             }
-            "--load" => self.show.load = true,
-            "--domain" => self.admit = Admit::domain(),
-            "--ordered-domain" => self.admit = Admit::ordered_domain(),
-            "--all" => self.admit = Admit::default(),
-            "--without" => self.admit = Admit::without(value()?)?,
             "--no-reduce" => self.reduce = false,
-            "--kind" => self.kind = Some(kind(value()?)?),
-            "--seed" => self.seed = whole(value()?)?,
-            "--traces" => self.traces = whole(value()?)?,
             "--threads" => self.threads = whole(value()?)? as usize,
             _ if word.starts_with("--") || self.file.is_some() => return Err(usage()),
             _ => self.file = Some(word.to_string()),
@@ -83,28 +73,16 @@ impl Words {
         Ok(())
     }
 
-    /// The original is only asked for traces that load and are not refused, and cannot show its events or a load alone.
+    /// The original is only asked for traces that load and are not refused, and cannot show its events.
     fn settle(mut self) -> Result<Words, String> {
         if self.programs.iter().any(Program::is_original) {
-            self.admit.accepted = true;
+            self.draw.admit.accepted = true;
             if self.show.events {
                 return Err("the original cannot show its events".to_string());
-            }
-            if self.show.load {
-                return Err("the original cannot show a load alone".to_string());
             }
         }
         Ok(self)
     }
-}
-
-fn whole(text: &str) -> Result<u64, String> {
-    text.parse()
-        .map_err(|_| format!("`{text}` is not a whole number"))
-}
-
-fn kind(name: &str) -> Result<Kind, String> {
-    Kind::named(name).ok_or_else(|| format!("no kind `{name}`"))
 }
 
 #[cfg(test)]
@@ -126,10 +104,11 @@ mod tests {
         ]);
         let words = words.unwrap_or_else(|what| panic!("{what}"));
         assert_eq!(
-            (words.seed, words.traces, words.kind),
+            (words.draw.seed, words.draw.traces, words.draw.kind),
             (7, 9, Some(generate::Kind::Mig))
         );
-        assert!(words.admit.accepted && words.admit.without == [true; 5]);
+        let admit = words.draw.admit;
+        assert!(admit.accepted && admit.without == [true; 5]);
     }
 
     #[test]

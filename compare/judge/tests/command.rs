@@ -30,14 +30,19 @@ fn a_program_agrees_with_itself() {
 }
 
 #[test]
-fn loads_alone_are_compared_but_not_with_the_original() {
-    let output = judge(&["second", "second", "--load", "--traces", "300"]);
+fn traces_to_load_are_compared() {
+    let output = judge(&["second", "second", "--loads", "--traces", "300"]);
     assert_eq!(output.status.code(), Some(0));
     assert!(text(&output).contains("compared 300"), "{}", text(&output));
-    let output = judge(&["second", "each:cat", "--load", "--traces", "20"]);
-    assert_eq!(output.status.code(), Some(1));
-    let output = judge(&["second", "original", "--load"]);
-    assert_eq!(output.status.code(), Some(2));
+}
+
+/// The length of a frame stands before it, low byte first.
+#[test]
+fn frames_are_written() {
+    let output = judge(&["frames", "--traces", "1", "--kind", "domain"]);
+    assert_eq!(output.status.code(), Some(0));
+    let (word, trace) = output.stdout.split_at(4);
+    assert_eq!(word, (trace.len() as u32).to_le_bytes());
 }
 
 #[test]
@@ -77,6 +82,7 @@ fn wrong_words_are_refused() {
         &["second", "nobody"],
         &["one", "second", "second"],
         &["samples", "no-such-folder"],
+        &["frames", "--details"],
     ] {
         assert_eq!(judge(words).status.code(), Some(2), "{words:?}");
     }

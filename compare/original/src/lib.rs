@@ -1,5 +1,9 @@
 //! Plans traces by the original Rust, unchanged, and prints what compare/FORMAT.md says.
 
+mod digest;
+
+pub use digest::digested;
+
 /// What to print besides the plan. The original cannot show its events, so `events` changes nothing.
 #[derive(Debug, Clone, Copy, Default)]
 pub struct Show {

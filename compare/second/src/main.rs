@@ -4,34 +4,38 @@ use std::io::{self, Read, Write};
 use std::process::ExitCode;
 
 use second::trace::TRACE_BYTES;
-use second::{run, show_load, Show};
+use second::{digested, run, Show};
 
-const USAGE: &str = "usage: second [--details] [--events] [--load] [--batch] < trace";
+const USAGE: &str = "usage: second [--details] [--events] [--digest] [--batch] < trace";
+
+/// The bit of a frame's length that asks for no event lines.
+const BARE: u32 = 1 << 31;
+
+#[derive(Clone, Copy, Default)]
+struct Words {
+    show: Show,
+    digest: bool,
+    batch: bool,
+}
 
 fn main() -> ExitCode {
-    let mut show = Show::default();
-    let mut batch = false;
-    let mut load = false;
+    let mut words = Words::default();
     for word in std::env::args_os().skip(1) {
         match word.to_str() {
-            Some("--details") => show.details = true,
-            Some("--events") => show.events = true,
-            Some("--load") => load = true,
-            Some("--batch") => batch = true,
+            Some("--details") => words.show.details = true,
+            Some("--events") => {
+                words.show.details = true;
+                words.show.events = true;
+            }
+            Some("--digest") => words.digest = true,
+            Some("--batch") => words.batch = true,
             _ => {
                 eprintln!("{USAGE}");
                 return ExitCode::from(2);
             }
         }
     }
-    let answer = |trace: &[u8]| {
-        if load {
-            show_load(trace)
-        } else {
-            run(trace, show)
-        }
-    };
-    let done = if batch { many(answer) } else { one(answer) };
+    let done = if words.batch { many(words) } else { one(words) };
     match done {
         Ok(()) => ExitCode::SUCCESS,
         Err(error) => {
@@ -41,38 +45,49 @@ fn main() -> ExitCode {
     }
 }
 
+fn answer(trace: &[u8], words: Words) -> String {
+    let text = run(trace, words.show);
+    if words.digest {
+        digested(&text)
+    } else {
+        text
+    }
+}
+
 /// One byte over the limit is enough to refuse by, however many follow.
-fn one(answer: impl Fn(&[u8]) -> String) -> io::Result<()> {
+fn one(words: Words) -> io::Result<()> {
     let mut trace = Vec::new();
     io::stdin()
         .lock()
         .take(TRACE_BYTES as u64 + 1)
         .read_to_end(&mut trace)?;
-    io::stdout().lock().write_all(answer(&trace).as_bytes())
+    io::stdout()
+        .lock()
+        .write_all(answer(&trace, words).as_bytes())
 }
 
 /// Traces one after another, each after its length; a line with a dot ends each output.
-fn many(answer: impl Fn(&[u8]) -> String) -> io::Result<()> {
+fn many(words: Words) -> io::Result<()> {
     let mut input = io::stdin().lock();
     let mut output = io::stdout().lock();
-    while let Some(length) = next_length(&mut input)? {
+    while let Some(word) = next_word(&mut input)? {
+        let length = u64::from(word & !BARE);
+        let mut these = words;
+        these.show.events &= word & BARE == 0;
         let mut trace = Vec::new();
-        input
-            .by_ref()
-            .take(u64::from(length))
-            .read_to_end(&mut trace)?;
-        if trace.len() as u64 != u64::from(length) {
+        input.by_ref().take(length).read_to_end(&mut trace)?;
+        if trace.len() as u64 != length {
             return Err(io::ErrorKind::UnexpectedEof.into());
         }
-        output.write_all(answer(&trace).as_bytes())?;
+        output.write_all(answer(&trace, these).as_bytes())?;
         output.write_all(b".\n")?;
         output.flush()?;
     }
     Ok(())
 }
 
-/// The length of the next trace; none at the end of the input.
-fn next_length(input: &mut impl Read) -> io::Result<Option<u32>> {
+/// The word before the next trace; none at the end of the input.
+fn next_word(input: &mut impl Read) -> io::Result<Option<u32>> {
     let mut word = Vec::new();
     input.by_ref().take(4).read_to_end(&mut word)?;
     match <[u8; 4]>::try_from(word.as_slice()) {

@@ -40,7 +40,7 @@ impl Work<'_> {
         self.watch.saw_queue(self.trace, &self.now.queue);
     }
 
-    pub fn placeable(&mut self, job: usize) -> bool {
+    fn placeable(&mut self, job: usize) -> bool {
         let ask = &self.trace.asks[job];
         let usage = self.usage(ask);
         self.quota_allows(ask, usage) && self.view(JobSet::default()).fits(ask)
@@ -122,7 +122,7 @@ impl Work<'_> {
     }
 
     /// Gives a job that is placeable its resources; it starts when the pass is over.
-    pub fn place(&mut self, job: usize) {
+    fn place(&mut self, job: usize) {
         let ask = &self.trace.asks[job];
         let placed = match ask.profile {
             Some(profile) => self.place_slices(job, ask, profile),

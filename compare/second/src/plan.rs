@@ -25,7 +25,7 @@ pub struct Job {
 }
 
 /// Who holds a GPU: a whole owner, or the owners of the slices it is cut into.
-#[derive(Clone, Debug, Default, PartialEq, Eq)]
+#[derive(Clone, Debug, Default)]
 pub struct Holding {
     pub owner: Option<u8>,
     /// The profile the GPU is cut for; none while it is unsliced.

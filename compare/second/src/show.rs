@@ -2,11 +2,9 @@
 
 use std::fmt::{Arguments, Display, Write};
 
-use crate::fill::fill;
 use crate::place::placeable;
-use crate::plan::{load, Holding, Plan, Stage, What};
+use crate::plan::{load, Plan, Stage, What};
 use crate::step::{step, ARRIVED, BUFFER_WORDS, COMPLETED, EVICTED, FAILED, STARTED};
-use crate::trace::Refusal;
 
 /// What is printed beside the lines of the plan; events imply details.
 #[derive(Clone, Copy, Debug, Default)]
@@ -33,7 +31,10 @@ pub fn run(trace: &[u8], show: Show) -> String {
     page.tables(&plan);
     page.state(&plan, steps);
     if let Some(refusal) = loaded.refusal {
-        page.refused(refusal);
+        page.line(format_args!(
+            "refused {} at {}",
+            refusal.number, refusal.place
+        ));
         return page.text;
     }
     let mut buffer = [0; BUFFER_WORDS];
@@ -57,27 +58,6 @@ pub fn run(trace: &[u8], show: Show) -> String {
     }
 }
 
-/// What `--load` prints for one trace: what the load made, and its answer.
-pub fn show_load(trace: &[u8]) -> String {
-    let loaded = load(trace);
-    let mut page = Page {
-        text: String::new(),
-        show: Show {
-            details: true,
-            events: true,
-        },
-    };
-    page.tables(&loaded.plan);
-    page.sums(&loaded.plan, 0);
-    page.events(&loaded.plan);
-    page.fill(&loaded.plan);
-    match loaded.refusal {
-        Some(refusal) => page.refused(refusal),
-        None => page.line(format_args!("loaded")),
-    }
-    page.text
-}
-
 /// A field that may be none.
 fn or_dash<T: Display>(value: Option<T>) -> String {
     value.map_or_else(|| "-".to_string(), |value| value.to_string())
@@ -92,11 +72,6 @@ impl Page {
     fn line(&mut self, words: Arguments) {
         let _ = self.text.write_fmt(words);
         self.text.push('\n');
-    }
-
-    fn refused(&mut self, refusal: Refusal) {
-        let Refusal { number, place } = refusal;
-        self.line(format_args!("refused {number} at {place}"));
     }
 
     fn decisions(&mut self, buffer: &[u64], number: usize) {
@@ -181,16 +156,6 @@ impl Page {
         if !self.show.details && !self.show.events {
             return;
         }
-        self.sums(plan, steps);
-        self.jobs(plan);
-        self.owners(plan);
-        if self.show.events {
-            self.events(plan);
-        }
-    }
-
-    /// The lines of the state that are not about one job, GPU or event.
-    fn sums(&mut self, plan: &Plan, steps: u64) {
         self.line(format_args!("# step {steps} {}", bits(plan.now.clock)));
         let totals = &plan.now.totals;
         self.line(format_args!(
@@ -203,6 +168,11 @@ impl Page {
         ));
         let queue: String = plan.now.queue.iter().map(|job| format!(" {job}")).collect();
         self.line(format_args!("# queue{queue}"));
+        self.jobs(plan);
+        self.owners(plan);
+        if self.show.events {
+            self.events(plan);
+        }
     }
 
     fn jobs(&mut self, plan: &Plan) {
@@ -234,41 +204,16 @@ impl Page {
 
     fn owners(&mut self, plan: &Plan) {
         for (gpu, held) in plan.now.room.iter().enumerate() {
-            self.owner(gpu, held);
-        }
-    }
-
-    fn owner(&mut self, gpu: usize, held: &Holding) {
-        let (owner, profile) = (or_dash(held.owner), or_dash(held.profile));
-        let owners: String = held
-            .owners()
-            .iter()
-            .map(|&owner| format!(" {}", or_dash(owner)))
-            .collect();
-        self.line(format_args!(
-            "# owner {gpu} {owner} {profile} {}{owners}",
-            held.slices
-        ));
-    }
-
-    /// The empty plan of a refused load has no jobs and so no lines.
-    fn fill(&mut self, plan: &Plan) {
-        for filled in fill(plan) {
-            let job = filled.job;
-            match filled.placed {
-                None => self.line(format_args!("# fill {job} no")),
-                Some(placed) => {
-                    let (cut, penalised) = (placed.cut.is_some(), placed.penalised);
-                    self.line(format_args!(
-                        "# fill {job} yes {} {}",
-                        u8::from(cut),
-                        u8::from(penalised)
-                    ));
-                }
-            }
-            for (gpu, held) in &filled.changed {
-                self.owner(*gpu, held);
-            }
+            let (owner, profile) = (or_dash(held.owner), or_dash(held.profile));
+            let owners: String = held
+                .owners()
+                .iter()
+                .map(|&owner| format!(" {}", or_dash(owner)))
+                .collect();
+            self.line(format_args!(
+                "# owner {gpu} {owner} {profile} {}{owners}",
+                held.slices
+            ));
         }
     }
 

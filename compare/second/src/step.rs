@@ -39,8 +39,11 @@ pub fn step_watched(plan: &mut Plan, buffer: &mut [u64], watch: &mut Watch) -> R
         return Err(11);
     };
     let mut work = Work {
+        trace: &plan.trace,
+        now: plan.now.clone(),
         watch: watch.clone(),
-        ..Work::on(plan)
+        placed: Vec::new(),
+        decisions: Vec::new(),
     };
     let event = work.now.events.swap_remove(at);
     if work.take(&event).is_err() {
@@ -70,17 +73,6 @@ fn stored(number: f64) -> Result<f64, NotPermitted> {
 }
 
 impl Work<'_> {
-    /// Work on a copy of the plan's state, nothing placed or decided yet.
-    pub fn on(plan: &Plan) -> Work<'_> {
-        Work {
-            trace: &plan.trace,
-            now: plan.now.clone(),
-            watch: Watch::default(),
-            placed: Vec::new(),
-            decisions: Vec::new(),
-        }
-    }
-
     fn decide(&mut self, time: f64, kind: u64, job: usize, other: usize) {
         self.decisions
             .push([time.to_bits(), kind, job as u64, other as u64]);

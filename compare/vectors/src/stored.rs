@@ -2,11 +2,13 @@
 //!
 //! A case is a byte of kind, its trace, and its expected answer: a word of length, then that many bytes. A trace is pieces, each a
 //! word of how often it stands there, a word of length and its bytes; a word 0 ends them. A word is four bytes, low byte first. The
-//! answer of kind 1, a load, is a byte for its number, 0 where the trace is accepted, and a word for its place. A reader can pass over
-//! a kind that it does not know.
+//! answer of kind 1, a load, is a byte for its number, 0 where the trace is accepted, and a word for its place; that of kind 2, a plan,
+//! is the text that has to be printed. A reader can pass over a kind that it does not know.
 
 /// The kind of a case that asks for the answer of a load.
 pub const LOAD: u8 = 1;
+/// The kind of a case that asks for all lines of a plan.
+pub const PLAN: u8 = 2;
 
 /// A trace as bytes that stand there more than once.
 #[derive(Clone, Default)]

@@ -18,3 +18,9 @@ pub mod Conditions
 pub mod Owning
 pub mod StepPrefixes
 pub mod Counters
+pub mod Completions
+pub mod Ending
+pub mod EndingSteps
+pub mod RunEnd
+pub mod RunStart
+pub mod FourthRun

@@ -1,6 +1,7 @@
 // Runs stored cases, given on standard input, and tells each whose answer is not the expected one.
 
 mod load;
+mod plan;
 mod stored;
 
 use libc::STDIN_FILENO;
@@ -17,7 +18,7 @@ ghost use Prim.Native.Nat.{_≤_, _<_};
 ghost use lib.ListN.{length};
 
 // All cases are held at once.
-const ROOM: usize = 307200;
+const ROOM: usize = 524288;
 
 // One byte over what a trace may have is enough to refuse it by.
 const KEPT: usize = 65537;
@@ -30,6 +31,9 @@ pub struct Ran {
 fn is_right(case: u64, kind: u64, bytes: &[u8], answer: &[u8]) -> bool {
     if kind == 1 {
         return load::is_right(case, bytes, answer);
+    }
+    if kind == 2 {
+        return plan::is_right(case, bytes, answer);
     }
     let mut line = [0u8; 80];
     let mut to = put_bytes(&mut line, 0, b"case ");
@@ -82,7 +86,7 @@ fn run_all(file: &[u8], trace: &mut [u8]) {
 }
 
 fn room() -> [u8; ROOM]
-    ensures { λ r. ⌜ 307200 ≡ length r ⌝ }
+    ensures { λ r. ⌜ 524288 ≡ length r ⌝ }
 {
     [0; ROOM]
 }

@@ -4,12 +4,16 @@ use mathlib.Core.List.{List}
 use Prim.Native.Nat.{ℕ, _≤_, _<_, _+_, min}
 use native.Mathlib.Nat.{min-eq-left, min-eq-right}
 use native.Mathlib.Omega.{arith}
-use lib.ListN.{length, set, length-set}
+use lib.ListN.{length, take, set, length-set}
 use lib.Seq.{length-take-le, set-out}
 use Rattle.io.specs.Counts.{Counts}
 
 pub counted : (n : ℕ) (xs : List ℕ) → n ≤ length xs → Counts n xs
 counted n xs h = (h, sym (length-take-le n xs h))
+
+-- What stands before a place has as many bytes as the place says.
+pub cut-to : (n : ℕ) (xs : List ℕ) → n ≤ length xs → n ≡ length (take n xs)
+cut-to n xs h = counted n xs h .1
 
 -- What a byte written leaves: the place after it, and the bytes with it.
 pub wrote : (xs : List ℕ) (i b : ℕ) → i < length xs → Counts (i + 1) (set xs i b) × (i + 1 ≡ min (i + 1) (length xs))

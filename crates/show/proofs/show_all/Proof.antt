@@ -1,16 +1,16 @@
 -- `show::show_all` meets its contract.
 use mathlib.Core.Path.{_≡_}
-use borrow.Author.Needs.{needs}
-use native.Mathlib.Omega.{arith}
 use lib.ListN.{length}
+use native.Mathlib.Omega.{arith}
+use borrow.Author.Needs.{needs}
 use Rattle.show.proofs.show_all.Statement.{statement}
 use Rattle.show.proofs.show_all.Tie as tie
 
 abbrev Inv-loop : tie.InvT-loop
-Inv-loop buffer₀ out₀ turns₀ buffer out turns = (length buffer ≡ length buffer₀) × (length out ≡ length out₀)
+Inv-loop buffer₀ out₀ all turns₀ buffer out turns = (length buffer ≡ length buffer₀) × (length out ≡ length out₀)
 
 abbrev μ-loop : tie.MeasureT-loop
-μ-loop buffer₀ out₀ turns₀ buffer out turns = turns
+μ-loop buffer₀ out₀ all turns₀ buffer out turns = turns
 
 loop-holds : tie.Need-loop-holds Inv-loop μ-loop
 loop-holds c = omega arith

@@ -1,0 +1,21 @@
+-- `text::page::write_page` meets its contract.
+use borrow.Author.Needs.{needs}
+use Rattle.text.specs.Places.{cut-to}
+use Rattle.text.proofs.page.write_page.Statement.{statement}
+use Rattle.text.proofs.page.write_page.Tie as tie
+
+slice-aggregate-write-all : tie.Need-slice-aggregate-write-all
+slice-aggregate-write-all c = search (needs, cut-to)
+
+write-all-requires : tie.Need-write-all-requires
+write-all-requires c κs = search needs
+
+returns : tie.Need-returns
+returns c = search needs
+
+returns-2 : tie.Need-returns-2
+returns-2 c = search needs
+
+pub write-page-spec : {M : Type 1} → statement M
+write-page-spec =
+    tie.close (tie.spec slice-aggregate-write-all write-all-requires returns returns-2)
