@@ -18,6 +18,7 @@ pub mod Conditions
 pub mod Owning
 pub mod StepPrefixes
 pub mod Counters
+pub mod Amounts
 pub mod Completions
 pub mod Ending
 pub mod EndingSteps

@@ -157,7 +157,7 @@ module _ (jobs₀ : List Job) (k : ℕ) (h : List Decision) (p : Plan) (b : Betw
 
 -- ---- every plan reached
 
-reached-owning : (trace : List ℕ) (k : ℕ) (p : Plan) (h : List Decision) → Reached trace k p h → Cuts (p .setting) × Holding p
+pub reached-owning : (trace : List ℕ) (k : ℕ) (p : Plan) (h : List Decision) → Reached trace k p h → Cuts (p .setting) × Holding p
 reached-owning trace k p h (begin e) =
     let r : Ready (load trace .plan) = load-ready trace e in
     (load-cuts trace e, (owners-loaded (load trace .plan .setting .gpus) (load trace .plan .gpus) (load trace .plan .jobs) (r .gpu-size) (r .job-size) (r .no-gpu) (λ i. record { nobodys = r .idle i .0; uncut = r .idle i .2; slices = r .idle i .3 }) (r .pending), none-loaded (load trace .plan .jobs) (r .pending)))

@@ -25,8 +25,8 @@ use Rattle.happen.specs.declared.Moment.{Moment}
 use Rattle.engine.specs.Settle.{passOf, startsOf, settled}
 use Rattle.engine.specs.Advance.{nextEvent, hasEvent, withEvent, byKind, happened, advanced}
 use Rattle.history.specs.Told.{isEvicted}
-use Rattle.history.specs.Prefixes.{evictsFor, visits, visitor, after, Preempts, prefixTold, Evicts}
-use Rattle.history.specs.PrefixesLaws.{step-prefixes, step-preempts}
+use Rattle.history.specs.Prefixes.{evictsFor, visits, visitor, after, Outcome, Evicts}
+use Rattle.history.specs.PrefixesLaws.{step-prefixes, pass-visit}
 use Rattle.promises.specs.Between.{Between, Amid}
 use Rattle.promises.specs.Happens.{one-told, empty-told}
 use Rattle.promises.specs.Steps.{happened-amid}
@@ -74,6 +74,13 @@ module _ (trace : List ℕ) (k : ℕ) (p : Plan) (h : List Decision) (r : Reache
       let q : Plan = m .plan in
       rw g
       (step-prefixes (q .setting) (q .clock) (q .gpus) (q .jobs) (q .queue) (q .waiting) (q .totals) (m .log) (m .ok) (amid .between .gpus) (amid .between .good .size) (amid .between .queue) (amid .table) (amid .own) (kind-quiet (nextEvent p .kind) (withEvent p) (nextEvent p)) (q .setting .options) _ refl id)
+
+  -- Each visit of that pass has one of three outcomes: all stays as it was, since the job does not wait, is a victim of this pass, or no prefix makes it placeable; it is placed as things stand; or the shortest prefix leaves and it is placed.
+  pub step-visit : (i : ℕ) → Outcome (eventDone p .plan .setting) (eventDone p .plan .clock) (after (eventDone p .plan .setting) (eventDone p .plan .clock) (passBegins p) i) (visitor (passBegins p) i) (after (eventDone p .plan .setting) (eventDone p .plan .clock) (passBegins p) (i + 1))
+  step-visit i =
+      let m : Moment = eventDone p in
+      let q : Plan = m .plan in
+      pass-visit (q .setting) (q .clock) (q .gpus) (q .jobs) (q .queue) (q .waiting) (q .totals) (m .log) (m .ok) (amid .between .gpus) (amid .between .good .size) (amid .between .queue) (amid .table) (amid .own) i
 
   -- A stale event decides nothing: nobody leaves, nobody starts.
   pub stale-decides-nothing : eventDone p .goes ≡ false → advanced p ≡ eventDone p
