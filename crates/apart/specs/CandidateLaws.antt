@@ -31,7 +31,7 @@ pub record MakesWay (aware : Bool) (ask : Ask) (v : Job) : Type 0 where
   pub few : v .evictions < 3
   pub tenants : (aware ≡ false) ⊎ ((ask .tenant ≡ 0) ⊎ (v .ask .tenant ≡ ask .tenant))
 
-runs-only : (s : JobState) → runs s ≡ true → s ≡ Running
+pub runs-only : (s : JobState) → runs s ≡ true → s ≡ Running
 runs-only Pending h = absurd (never-both h refl)
 runs-only Waiting h = absurd (never-both h refl)
 runs-only Placed h = absurd (never-both h refl)

@@ -25,7 +25,7 @@ use Rattle.apart.specs.Leaving.{allocated-length, sorted-length, preempt
 use Rattle.pass.specs.declared.visit.Pass.{Pass}
 
 -- a state in which a job waits is that one
-waits-only : (s : JobState) → waitsIn s ≡ true → s ≡ Waiting
+pub waits-only : (s : JobState) → waitsIn s ≡ true → s ≡ Waiting
 waits-only Pending h = absurd (never-both h refl)
 waits-only Waiting h = refl
 waits-only Placed h = absurd (never-both h refl)

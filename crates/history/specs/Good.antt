@@ -68,6 +68,23 @@ came Running = 1
 came Finished = 1
 came Failed = 1
 
+-- at most one
+pub begun-most : (st : JobState) → begun st ≤ 1
+begun-most Pending = omega arith
+begun-most Waiting = omega arith
+begun-most Placed = omega arith
+begun-most Running = omega arith
+begun-most Finished = omega arith
+begun-most Failed = omega arith
+
+pub came-most : (st : JobState) → came st ≤ 1
+came-most Pending = omega arith
+came-most Waiting = omega arith
+came-most Placed = omega arith
+came-most Running = omega arith
+came-most Finished = omega arith
+came-most Failed = omega arith
+
 pub record JobOk (j : Job) : Type 0 where
   pub run-is : j .run ≡ j .evictions + begun (j .state)
   pub few : j .evictions ≤ 3
@@ -123,14 +140,6 @@ good-now s jobs₀ jobs h size asks each evicted started told within own =
       runs-few = λ k. let b : begun (jobAt jobs k .state) ≤ 1 = begun-most (jobAt jobs k .state) in omega (arith, evicted k, started k, each k .run-is);
       own = own;
     }
-  where
-    begun-most : (st : JobState) → begun st ≤ 1
-    begun-most Pending = omega arith
-    begun-most Waiting = omega arith
-    begun-most Placed = omega arith
-    begun-most Running = omega arith
-    begun-most Finished = omega arith
-    begun-most Failed = omega arith
 
 -- what holds at each front of the decisions so far, and after one more, holds at each front then
 fronts : (s : Setting) (jobs₀ : List Job) (h : List Decision) (d : Decision) → ((m : ℕ) → Now s jobs₀ (take m h)) → Now s jobs₀ (h ++ (d ∷ [])) → (m : ℕ) → Now s jobs₀ (take m (h ++ (d ∷ [])))

@@ -26,3 +26,5 @@ pub mod NonePlaced
 pub mod OwnersTold
 pub mod Owned
 pub mod OwnersSettles
+pub mod QueueLined
+pub mod QueuePass

@@ -18,7 +18,7 @@ use Rattle.model.specs.declared.job.JobState.{JobState}
 use Rattle.model.specs.declared.job.JobState.the-variants.{Pending, Waiting, Placed, Running, Finished, Failed}
 use Rattle.life.specs.Life as Life
 use Rattle.life.specs.Life.{timed}
-use Rattle.history.specs.Good.{jobAt, JobOk, begun, came}
+use Rattle.history.specs.Good.{jobAt, JobOk, begun, came, begun-most, came-most}
 
 -- Its completions, one a start; and, of a gang job with a timeout, one at its arrival and one at each eviction.
 unfoldable pub eventsOf : Job → ℕ
@@ -31,22 +31,6 @@ events-few j o =
     let b : begun (j .state) ≤ 1 = begun-most (j .state) in
     let c : came (j .state) ≤ 1 = came-most (j .state) in
     split (timed (j .ask)) (λ t. rw t (omega (arith, b, c, o .run-is, o .few))) (λ f. rw f (omega (arith, b, o .run-is, o .few)))
-  where
-    begun-most : (st : JobState) → begun st ≤ 1
-    begun-most Pending = omega arith
-    begun-most Waiting = omega arith
-    begun-most Placed = omega arith
-    begun-most Running = omega arith
-    begun-most Finished = omega arith
-    begun-most Failed = omega arith
-
-    came-most : (st : JobState) → came st ≤ 1
-    came-most Pending = omega arith
-    came-most Waiting = omega arith
-    came-most Placed = omega arith
-    came-most Running = omega arith
-    came-most Finished = omega arith
-    came-most Failed = omega arith
 
 -- ---- what each change adds
 

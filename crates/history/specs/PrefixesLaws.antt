@@ -41,7 +41,7 @@ use Rattle.pass.specs.Visit.{newPass, placedAs, allocation, visited}
 use Rattle.pass.specs.Walk.{sorted, visitAt, walked}
 use Rattle.apart.specs.Standing.{Standing, Looked, InState, jobAt, cleared, place-other, place-it, place-line, clear-room, clear-other, clear-standing, clear-looked}
 use Rattle.apart.specs.Leaving.{preemption, leaving, leaving-may, leaving-once, may-run}
-use Rattle.apart.specs.Keeps.{Kept, placing, sorted-standing, visit-keeps}
+use Rattle.apart.specs.Keeps.{Kept, placing, sorted-standing, visit-keeps, waits-only}
 use Rattle.apart.specs.VisitLaws.{visit-other, visit-victim, visit-places, visit-mig, visit-nobody, visit-preempts}
 use Rattle.apart.specs.Told.{Told, told-kept}
 use Rattle.apart.specs.PassLaws.{new-standing, pass-standing, pass-none-lost, pass-room}
@@ -50,15 +50,6 @@ use Rattle.history.specs.Told.{isEvicted}
 use Rattle.history.specs.Prefixes.{fitsNow, candidatesAt, howMany, prefix, prefixTold, not-waiting, a-victim, no-prefix, Places, Preempts, Outcome, nothing, places, preempts, visitor, visits, after, evictsFor, Silent, Evicts, nobody, once, Prefixes}
 
 -- ---- one visit
-
--- a state in which a job waits is that one
-waits-only : (st : JobState) → waitsIn st ≡ true → st ≡ Waiting
-waits-only Pending h = absurd (never-both h refl)
-waits-only Waiting h = refl
-waits-only Placed h = absurd (never-both h refl)
-waits-only Running h = absurd (never-both h refl)
-waits-only Finished h = absurd (never-both h refl)
-waits-only Failed h = absurd (never-both h refl)
 
 module _ (s : Setting) (clock : Float) (p : Pass) (id : ℕ) where
   -- as many leave as the definition says

@@ -34,7 +34,7 @@ use Rattle.engine.specs.Settle.{passOf, startsOf, withPass, settled}
 use Rattle.engine.specs.Advance.{nextEvent, hasEvent, withEvent, byKind, happened, advanced}
 use Rattle.planner.specs.Step.{stepped}
 use Rattle.planner.specs.StepLaws.{accepted-for, accepted-plan}
-use Rattle.history.specs.Good.{jobAt, begun, came}
+use Rattle.history.specs.Good.{jobAt, begun-most, came-most}
 use Rattle.history.specs.Sums.{Small, Fits, PassFits, joined-small, pass-fits, starts-small}
 use Rattle.promises.specs.LoadedLaws.{Ready, load-ready}
 use Rattle.promises.specs.Between.{Between, Amid, still-most}
@@ -119,22 +119,6 @@ tallied trace k p h (Conditions.onward {k = n} {p = q} {h = g} r buffer e) =
     rw (s, m) (tallied-step (128 * n) n (first trace .jobs) g q (b .0) (a .1) (tallied trace n q g r))
 
 -- ---- the theorem
-
-begun-most : (st : JobState) → begun st ≤ 1
-begun-most Pending = omega arith
-begun-most Waiting = omega arith
-begun-most Placed = omega arith
-begun-most Running = omega arith
-begun-most Finished = omega arith
-begun-most Failed = omega arith
-
-came-most : (st : JobState) → came st ≤ 1
-came-most Pending = omega arith
-came-most Waiting = omega arith
-came-most Placed = omega arith
-came-most Running = omega arith
-came-most Finished = omega arith
-came-most Failed = omega arith
 
 -- Far below where any of them would wrap: 32 bits for what a job counts, 64 for the rest.
 pub record FarFromWrapping (p : Plan) : Type 0 where

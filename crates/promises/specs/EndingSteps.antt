@@ -52,7 +52,7 @@ use Rattle.history.specs.PassOwed.{arrived-not}
 use Rattle.history.specs.Entries.{inUse, used-inside}
 use Rattle.promises.specs.LoadedLaws.{Ready, load-ready}
 use Rattle.promises.specs.Between.{Between, Amid, nine, settled-between}
-use Rattle.promises.specs.Happens.{runs-only}
+use Rattle.apart.specs.CandidateLaws.{runs-only}
 use Rattle.promises.specs.Steps.{event-taken, happened-amid}
 use Rattle.promises.specs.Conditions.{Reached, begin, onward, first, reached-between}
 use Rattle.promises.specs.Completions.{isCompletion, endOne, completionsOf, end-not}

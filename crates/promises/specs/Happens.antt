@@ -146,15 +146,6 @@ arrives-amid jobs₀ k h p id one b inside none new =
 
 -- ---- a completion
 
--- a state in which a job runs is that one
-pub runs-only : (st : JobState) → runs st ≡ true → st ≡ Running
-runs-only Pending h = absurd (never-both h refl)
-runs-only Waiting h = absurd (never-both h refl)
-runs-only Placed h = absurd (never-both h refl)
-runs-only Running h = refl
-runs-only Finished h = absurd (never-both h refl)
-runs-only Failed h = absurd (never-both h refl)
-
 pub completes-amid : (jobs₀ : List Job) (k : ℕ) (h : List Decision) (p : Plan) (id : ℕ) → Between jobs₀ k h p → jobAt (p .jobs) id .state ≡ Running → Amid jobs₀ k h (completes p id)
 unfolding completes Life.ends
 completes-amid jobs₀ k h p id b run =
@@ -178,15 +169,6 @@ completes-amid jobs₀ k h p id b run =
     })
 
 -- ---- a timeout
-
--- a state in which a job waits is that one
-pub waits-only : (st : JobState) → waitsIn st ≡ true → st ≡ Waiting
-waits-only Pending h = absurd (never-both h refl)
-waits-only Waiting h = refl
-waits-only Placed h = absurd (never-both h refl)
-waits-only Running h = absurd (never-both h refl)
-waits-only Finished h = absurd (never-both h refl)
-waits-only Failed h = absurd (never-both h refl)
 
 pub fails-amid : (jobs₀ : List Job) (k : ℕ) (h : List Decision) (p : Plan) (id : ℕ) → Between jobs₀ k h p → jobAt (p .jobs) id .state ≡ Waiting → Amid jobs₀ k h (timesOut p id)
 unfolding timesOut Life.fails

@@ -25,3 +25,5 @@ pub mod EndingSteps
 pub mod RunEnd
 pub mod RunStart
 pub mod FourthRun
+pub mod QueueSteps
+pub mod QueueRoom

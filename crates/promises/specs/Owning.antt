@@ -49,7 +49,9 @@ use Rattle.promises.specs.RunLaws.{recordsOf}
 use Rattle.promises.specs.NothingDroppedLaws.{load-exactly}
 use Rattle.promises.specs.LoadedLaws.{Ready, load-ready}
 use Rattle.promises.specs.Between.{Between, Amid}
-use Rattle.promises.specs.Happens.{runs-only, waits-only, not-came}
+use Rattle.apart.specs.Keeps.{waits-only}
+use Rattle.apart.specs.CandidateLaws.{runs-only}
+use Rattle.promises.specs.Happens.{not-came}
 use Rattle.promises.specs.Steps.{event-taken, arrival-facts, happened-amid, happened-setting, setting-stays}
 use Rattle.promises.specs.Conditions.{Reached, begin, onward, first, reached-between}
 

@@ -53,7 +53,8 @@ use Rattle.history.specs.Changes.{in-table}
 use Rattle.history.specs.Good.{came}
 use Rattle.history.specs.PassOwed.{arrived-not}
 use Rattle.promises.specs.Between.{Between, Amid}
-use Rattle.promises.specs.Happens.{waits-only, completes-amid}
+use Rattle.apart.specs.Keeps.{waits-only}
+use Rattle.promises.specs.Happens.{completes-amid}
 use Rattle.promises.specs.Steps.{event-taken, arrival-facts, happened-amid}
 use Rattle.promises.specs.Completions.{EndOf, end-used, end-once, taken-stays}
 use Rattle.promises.specs.Ending.{Wider, beside-none, timeout-beside, starts-wider}

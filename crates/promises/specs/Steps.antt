@@ -31,7 +31,9 @@ use Rattle.history.specs.Entries.{isArrival, arrivalOne, arriving, taken-use, t
 use Rattle.history.specs.Queued.{Counted}
 use Rattle.history.specs.Good.{came}
 use Rattle.promises.specs.Between.{aheadIn, Between, Amid, settled-between}
-use Rattle.promises.specs.Happens.{stale-amid, arrives-amid, completes-amid, fails-amid, runs-only, waits-only}
+use Rattle.apart.specs.Keeps.{waits-only}
+use Rattle.apart.specs.CandidateLaws.{runs-only}
+use Rattle.promises.specs.Happens.{stale-amid, arrives-amid, completes-amid, fails-amid}
 
 module _ (jobs₀ : List Job) (k : ℕ) (h : List Decision) (p : Plan) (b : Between jobs₀ k h p) (has : hasEvent p ≡ true) where
   inside-room : least (p .events) < 1152
