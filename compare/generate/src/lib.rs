@@ -9,10 +9,12 @@ pub mod random;
 mod recipe;
 mod record;
 pub mod survey;
+mod timed;
 
 pub use kind::{Kind, KINDS};
 pub use random::seed_of;
 use random::Random;
+pub use timed::Timed;
 
 /// The trace of this kind that the seed names.
 pub fn trace(kind: Kind, seed: u64) -> Vec<u8> {
@@ -24,6 +26,13 @@ pub fn trace(kind: Kind, seed: u64) -> Vec<u8> {
         Kind::Slices if random.chance(25) => leftover::items(&mut random),
         _ => kind.recipe().items(&mut random),
     };
+    items.push(record::end());
+    form::join(&items)
+}
+
+/// The trace to be timed that the seed names.
+pub fn timed(kind: Timed, seed: u64) -> Vec<u8> {
+    let mut items = kind.recipe().items(&mut Random::new(seed));
     items.push(record::end());
     form::join(&items)
 }

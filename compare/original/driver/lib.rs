@@ -28,7 +28,7 @@ mod names;
 mod trace;
 
 #[cfg(original)]
-pub use drive::run;
+pub use drive::{planned, run, Planned};
 
 /// Whether the original's files were there when this was built.
 pub const PRESENT: bool = cfg!(original);
@@ -36,4 +36,22 @@ pub const PRESENT: bool = cfg!(original);
 #[cfg(not(original))]
 pub fn run(_trace: &[u8], _details: bool) -> String {
     "built without the original\n".to_string()
+}
+
+/// Nothing is ever planned.
+#[cfg(not(original))]
+pub struct Planned {
+    pub steps: usize,
+}
+
+#[cfg(not(original))]
+pub fn planned(_trace: &[u8]) -> Option<Planned> {
+    None
+}
+
+#[cfg(not(original))]
+impl Planned {
+    pub fn decisions(&self) -> Vec<[u64; 4]> {
+        Vec::new()
+    }
 }

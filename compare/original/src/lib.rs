@@ -32,3 +32,34 @@ pub fn run(trace: &[u8], show: Show, build: Build) -> String {
         Build::Ordered => original_ordered::run(trace, show.details),
     }
 }
+
+/// A trace planned to its end, in memory.
+pub enum Planned {
+    Published(original_published::Planned),
+    Ordered(original_ordered::Planned),
+}
+
+/// Plans a trace without a line of text; none where the driver cannot load it.
+pub fn planned(trace: &[u8], build: Build) -> Option<Planned> {
+    Some(match build {
+        Build::Published => Planned::Published(original_published::planned(trace)?),
+        Build::Ordered => Planned::Ordered(original_ordered::planned(trace)?),
+    })
+}
+
+impl Planned {
+    pub fn steps(&self) -> usize {
+        match self {
+            Planned::Published(planned) => planned.steps,
+            Planned::Ordered(planned) => planned.steps,
+        }
+    }
+
+    /// Each decision in its four words.
+    pub fn decisions(&self) -> Vec<[u64; 4]> {
+        match self {
+            Planned::Published(planned) => planned.decisions(),
+            Planned::Ordered(planned) => planned.decisions(),
+        }
+    }
+}

@@ -10,6 +10,7 @@ pub mod Queued
 pub mod Owed
 pub mod PassOwed
 pub mod PassCame
+pub mod Decided
 pub mod Sums
 pub mod Prefixes
 pub mod PrefixesLaws

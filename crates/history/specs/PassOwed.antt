@@ -46,7 +46,7 @@ placed-ask : (j : Job) → Life.placed j .ask ≡ j .ask
 unfolding Life.placed
 placed-ask j = refl
 
-cleared-jobs : (clock : Float) (p : Pass) (id : ℕ) (vs : List ℕ) → cleared clock p id vs .jobs ≡ evictedAll clock (p .jobs) vs
+pub cleared-jobs : (clock : Float) (p : Pass) (id : ℕ) (vs : List ℕ) → cleared clock p id vs .jobs ≡ evictedAll clock (p .jobs) vs
 unfolding cleared
 cleared-jobs clock p id vs = refl
 
@@ -138,8 +138,9 @@ module _ (s : Setting) (clock : Float) (n base : ℕ) (jobs₀ : List Job) where
 abbrev pub ToStart : List Job → ℕ → Type 0
 ToStart jobs k = (k < 128) × (jobAt jobs k .state ≡ Placed) × (jobAt jobs k .run < 9)
 
-module _ (options : Options) (clock : Float) (n : ℕ) where
-  still-to-start : (b : Begun) (p : Placing) (ks : List ℕ) → Apart (p .job) ks → All (ToStart (b .jobs)) ks → All (ToStart (Begin.begun options clock b p .jobs)) ks
+module _ (options : Options) (clock : Float) where
+  -- a start leaves the others to start
+  pub still-to-start : (b : Begun) (p : Placing) (ks : List ℕ) → Apart (p .job) ks → All (ToStart (b .jobs)) ks → All (ToStart (Begin.begun options clock b p .jobs)) ks
   still-to-start b p ks a l =
       all-weaken
       (λ k. (p .job ≡ k → ⊥) × ToStart (b .jobs) k)
@@ -148,15 +149,16 @@ module _ (options : Options) (clock : Float) (n : ℕ) where
       (λ k q. (q .1 .0, rw (begun-other options clock b p k (λ e. q .0 (sym e))) (q .1 .1), rw (begun-other options clock b p k (λ e. q .0 (sym e))) (q .1 .2)))
       (all-both (λ k. p .job ≡ k → ⊥) (ToStart (b .jobs)) ks a l)
 
-  pub starts-owed : (b : Begun) (ps : List Placing) → length (b .jobs) ≡ 128 → Rest n (b .jobs) → Distinct (jobsOf ps) → All (ToStart (b .jobs)) (jobsOf ps) → (allEvents (begunAll options clock b ps .jobs) ≡ allEvents (b .jobs) + length ps) × Rest n (begunAll options clock b ps .jobs)
-  unfolding begunAll
-  starts-owed b [] l r d m = (omega arith, r)
-  starts-owed b (p ∷ ps) l r d m =
-      let j : Job = Life.started (jobOf b p) (startOf options clock b p) in
-      let e : Begin.begun options clock b p .jobs ≡ set (b .jobs) (p .job) j = begun-jobs options clock b p in
-      let one : allEvents (set (b .jobs) (p .job) j) ≡ allEvents (b .jobs) + 1 = owed-set (b .jobs) (p .job) 1 j (omega (arith, l, m .0 .0)) (owed-started (jobOf b p) (startOf options clock b p) (m .0 .1) (m .0 .2)) in
-      let below : p .job < n = rest-below n (p .job) (b .jobs) r (arrived-not (jobAt (b .jobs) (p .job) .state) (ap came (m .0 .1))) in
-      let rest : Rest n (Begin.begun options clock b p .jobs) = rw e (rest-set n (p .job) (b .jobs) j below r) in
-      let more : (allEvents (begunAll options clock (Begin.begun options clock b p) ps .jobs) ≡ allEvents (Begin.begun options clock b p .jobs) + length ps) × Rest n (begunAll options clock (Begin.begun options clock b p) ps .jobs) =
-      starts-owed (Begin.begun options clock b p) ps (ap length e ∙ length-set (b .jobs) (p .job) j ∙ l) rest (d .1) (still-to-start b p (jobsOf ps) (d .0) (m .1)) in
-      (let x : allEvents (Begin.begun options clock b p .jobs) ≡ allEvents (set (b .jobs) (p .job) j) = ap allEvents e in omega (arith, more .0, x, one), more .1)
+  module _ (n : ℕ) where
+    pub starts-owed : (b : Begun) (ps : List Placing) → length (b .jobs) ≡ 128 → Rest n (b .jobs) → Distinct (jobsOf ps) → All (ToStart (b .jobs)) (jobsOf ps) → (allEvents (begunAll options clock b ps .jobs) ≡ allEvents (b .jobs) + length ps) × Rest n (begunAll options clock b ps .jobs)
+    unfolding begunAll
+    starts-owed b [] l r d m = (omega arith, r)
+    starts-owed b (p ∷ ps) l r d m =
+        let j : Job = Life.started (jobOf b p) (startOf options clock b p) in
+        let e : Begin.begun options clock b p .jobs ≡ set (b .jobs) (p .job) j = begun-jobs options clock b p in
+        let one : allEvents (set (b .jobs) (p .job) j) ≡ allEvents (b .jobs) + 1 = owed-set (b .jobs) (p .job) 1 j (omega (arith, l, m .0 .0)) (owed-started (jobOf b p) (startOf options clock b p) (m .0 .1) (m .0 .2)) in
+        let below : p .job < n = rest-below n (p .job) (b .jobs) r (arrived-not (jobAt (b .jobs) (p .job) .state) (ap came (m .0 .1))) in
+        let rest : Rest n (Begin.begun options clock b p .jobs) = rw e (rest-set n (p .job) (b .jobs) j below r) in
+        let more : (allEvents (begunAll options clock (Begin.begun options clock b p) ps .jobs) ≡ allEvents (Begin.begun options clock b p .jobs) + length ps) × Rest n (begunAll options clock (Begin.begun options clock b p) ps .jobs) =
+        starts-owed (Begin.begun options clock b p) ps (ap length e ∙ length-set (b .jobs) (p .job) j ∙ l) rest (d .1) (still-to-start b p (jobsOf ps) (d .0) (m .1)) in
+        (let x : allEvents (Begin.begun options clock b p .jobs) ≡ allEvents (set (b .jobs) (p .job) j) = ap allEvents e in omega (arith, more .0, x, one), more .1)

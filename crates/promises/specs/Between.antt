@@ -74,7 +74,7 @@ pub nine : (jobs₀ : List Job) (s : Setting) (jobs : List Job) (h : List Decisi
 nine jobs₀ s jobs h l g r = omega (arith, l, all-few (s .jobs) jobs r (g .each))
 
 -- a job that is placed has run at most three times before
-few-runs : (jobs : List Job) (ks : List ℕ) → ((k : ℕ) → JobOk (jobAt jobs k)) → All (InState Placed jobs) ks → All (ToStart jobs) ks
+pub few-runs : (jobs : List Job) (ks : List ℕ) → ((k : ℕ) → JobOk (jobAt jobs k)) → All (InState Placed jobs) ks → All (ToStart jobs) ks
 few-runs jobs ks o l =
     all-weaken
     (InState Placed jobs)
@@ -96,13 +96,13 @@ still-most jobs queue n e = omega (arith, e, only-length (waitsAt jobs) (take n 
 -- ---- the pass
 
 -- what holds when the pass is over
-record Passed (jobs₀ : List Job) (h : List Decision) (c : ℕ) (p : Plan) (q : Pass) : Type 0 where
-  standing : Standing q
-  good : PassGood (p .setting) jobs₀ h c q
-  owed : PassOwed (p .setting .jobs) (allEvents (p .jobs)) jobs₀ q
-  came-same : Came (p .jobs) (q .jobs)
+pub record Passed (jobs₀ : List Job) (h : List Decision) (c : ℕ) (p : Plan) (q : Pass) : Type 0 where
+  pub standing : Standing q
+  pub good : PassGood (p .setting) jobs₀ h c q
+  pub owed : PassOwed (p .setting .jobs) (allEvents (p .jobs)) jobs₀ q
+  pub came-same : Came (p .jobs) (q .jobs)
 
-passed : (jobs₀ : List Job) (k : ℕ) (h : List Decision) (m : Moment) → Amid jobs₀ k h m → Passed jobs₀ h (m .log .count) (m .plan) (passOf m)
+pub passed : (jobs₀ : List Job) (k : ℕ) (h : List Decision) (m : Moment) → Amid jobs₀ k h m → Passed jobs₀ h (m .log .count) (m .plan) (passOf m)
 unfolding passOf newPass newLine sorted sumOver
 passed jobs₀ k h m a =
     let p : Plan = m .plan in

@@ -27,3 +27,6 @@ pub mod RunStart
 pub mod FourthRun
 pub mod QueueSteps
 pub mod QueueRoom
+pub mod ToldFew
+pub mod OneHistory
+pub mod RunWords

@@ -64,7 +64,7 @@ left-count left = ap length (sym (pad-take 128 0 left))
 
 -- ---- the event
 
-event-jobs : (p : Plan) → withEvent p .jobs ≡ p .jobs
+pub event-jobs : (p : Plan) → withEvent p .jobs ≡ p .jobs
 unfolding withEvent
 event-jobs p = refl
 

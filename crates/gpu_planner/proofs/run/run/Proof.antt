@@ -1,0 +1,149 @@
+-- `gpu_planner::run::run` meets its contract.
+use mathlib.Core.Path.{_≡_, refl, sym, _∙_}
+use Prim.Native.Nat.{_≤_, _-_}
+use native.Mathlib.Omega.{arith}
+use lib.ListN.{length}
+use Rattle.gpu_planner.specs.Run.{runTo, behind, turns}
+use Rattle.gpu_planner.specs.RunLaws.{turn-is, turn-on, turns-over, both-of}
+use borrow.Author.Needs.{needs}
+use Rattle.gpu_planner.proofs.run.run.Statement.{statement}
+use Rattle.gpu_planner.proofs.run.run.Tie as tie
+
+abbrev Inv-loop : tie.InvT-loop
+Inv-loop words₀ plan₀ count₀ steps₀ words plan count steps = (steps ≤ turns) × (behind count ≤ length words) × (length words ≡ length words₀) × (runTo (turns - steps) plan steps count words ≡ runTo turns plan₀ 0 0 words₀)
+
+abbrev μ-loop : tie.MeasureT-loop
+μ-loop words₀ plan₀ count₀ steps₀ words plan count steps = turns - steps
+
+loop-holds : tie.Need-loop-holds Inv-loop μ-loop
+loop-holds c = (omega arith, omega arith, refl, refl)
+
+mul-at : tie.Need-mul-at Inv-loop μ-loop
+mul-at c = search needs
+
+add-at : tie.Need-add-at Inv-loop μ-loop
+add-at c = search needs
+
+mul-step : tie.Need-mul-step Inv-loop μ-loop
+mul-step c = search needs
+
+sub-step : tie.Need-sub-step Inv-loop μ-loop
+sub-step c = search needs
+
+part-step-start : tie.Need-part-step-start Inv-loop μ-loop
+part-step-start c = search needs
+
+part-step-end : tie.Need-part-step-end Inv-loop μ-loop
+part-step-end c = search needs
+
+step-requires : tie.Need-step-requires Inv-loop μ-loop
+step-requires c κs = search needs
+
+enum-known-answer : tie.Need-enum-known-answer Inv-loop μ-loop
+enum-known-answer c = search needs
+
+lesser-requires : tie.Need-lesser-requires Inv-loop μ-loop
+lesser-requires c κs = search needs
+
+add-count : tie.Need-add-count Inv-loop μ-loop
+add-count c = search needs
+
+enum-told : tie.Need-enum-told Inv-loop μ-loop
+enum-told c = search needs
+
+ended-requires : tie.Need-ended-requires Inv-loop μ-loop
+ended-requires c κs = search needs
+
+same-length : tie.Need-same-length Inv-loop μ-loop
+same-length c = search needs
+
+returns : tie.Need-returns Inv-loop μ-loop
+returns c =
+    let t : _ = turn-is (c .before .before .before .before .before .before .before .before .before .loop .plan) (c .before .before .before .before .before .before .before .before .before .loop .steps) (c .before .before .before .before .before .before .before .before .before .loop .count) (c .before .before .before .before .before .before .before .before .before .loop .words) (c .before .before .before .before .before .before .step .last .1 .0) (c .before .before .before .before .before .before .step .result) _ (c .before .before .before .before .before .before .step .ensures .0) (c .before .before .before .before .before .before .step .ensures .1) (omega arith) (c .before .before .before .before .before .before .before .before .before .loop .inv .3) in
+    both-of _ _ (c .ended .result) _ (rw (c .before .enum-told .given .1) at t) (c .ended .ensures)
+
+enum-told-2 : tie.Need-enum-told-2 Inv-loop μ-loop
+enum-told-2 c = search needs
+
+ended-requires-2 : tie.Need-ended-requires-2 Inv-loop μ-loop
+ended-requires-2 c κs = search needs
+
+same-length-2 : tie.Need-same-length-2 Inv-loop μ-loop
+same-length-2 c = search needs
+
+returns-2 : tie.Need-returns-2 Inv-loop μ-loop
+returns-2 c =
+    let t : _ = turn-is (c .before .before .before .before .before .before .before .before .before .loop .plan) (c .before .before .before .before .before .before .before .before .before .loop .steps) (c .before .before .before .before .before .before .before .before .before .loop .count) (c .before .before .before .before .before .before .before .before .before .loop .words) (c .before .before .before .before .before .before .step .last .1 .0) (c .before .before .before .before .before .before .step .result) _ (c .before .before .before .before .before .before .step .ensures .0) (c .before .before .before .before .before .before .step .ensures .1) (omega arith) (c .before .before .before .before .before .before .before .before .before .loop .inv .3) in
+    both-of _ _ (c .ended2 .result) _ (rw (c .before .enum-told2 .given .1) at t) (c .ended2 .ensures)
+
+enum-told-3 : tie.Need-enum-told-3 Inv-loop μ-loop
+enum-told-3 c = search needs
+
+ended-requires-3 : tie.Need-ended-requires-3 Inv-loop μ-loop
+ended-requires-3 c κs = search needs
+
+same-length-3 : tie.Need-same-length-3 Inv-loop μ-loop
+same-length-3 c = search needs
+
+returns-3 : tie.Need-returns-3 Inv-loop μ-loop
+returns-3 c =
+    let t : _ = turn-is (c .before .before .before .before .before .before .before .before .before .loop .plan) (c .before .before .before .before .before .before .before .before .before .loop .steps) (c .before .before .before .before .before .before .before .before .before .loop .count) (c .before .before .before .before .before .before .before .before .before .loop .words) (c .before .before .before .before .before .before .step .last .1 .0) (c .before .before .before .before .before .before .step .result) _ (c .before .before .before .before .before .before .step .ensures .0) (c .before .before .before .before .before .before .step .ensures .1) (omega arith) (c .before .before .before .before .before .before .before .before .before .loop .inv .3) in
+    both-of _ _ (c .ended3 .result) _ (rw (c .before .enum-told3 .given .1) at t) (c .ended3 .ensures)
+
+add-steps : tie.Need-add-steps Inv-loop μ-loop
+add-steps c = search needs
+
+loop-less : tie.Need-loop-less Inv-loop μ-loop
+loop-less c = search needs
+
+loop-again : tie.Need-loop-again Inv-loop μ-loop
+loop-again c =
+    let l : _ = c .before .before .before .before .before .before .words .given in
+    let t : _ = turn-on (c .before .before .before .before .before .before .before .before .before .before .loop .plan) (c .before .before .before .before .before .before .before .before .before .before .loop .steps) (c .before .before .before .before .before .before .before .before .before .before .loop .count) (c .before .before .before .before .before .before .before .before .before .before .loop .words) (c .before .before .before .before .before .before .before .step .last .1 .0) (c .before .before .before .before .before .before .before .step .result) _ (c .before .before .before .before .before .before .before .step .ensures .0) (c .before .before .before .before .before .before .before .step .ensures .1) (omega arith) (c .before .before .before .before .before .before .before .before .before .before .loop .inv .3) _ (c .lesser .result) (c .before .before .answer .given .1) (c .lesser .ensures) (l .1) (omega arith) in
+    (omega arith, t .0, l .1 ∙ c .before .before .before .before .before .before .before .before .before .before .loop .inv .2, t .1)
+
+ended-requires-4 : tie.Need-ended-requires-4 Inv-loop μ-loop
+ended-requires-4 c κs = search needs
+
+same-length-4 : tie.Need-same-length-4 Inv-loop μ-loop
+same-length-4 c = search needs
+
+returns-4 : tie.Need-returns-4 Inv-loop μ-loop
+unfolding runTo
+returns-4 c = both-of _ _ (c .ended4 .result) _ (sym (turns-over (c .before .before .loop .plan) (c .before .before .loop .steps) (c .before .before .loop .count) (c .before .before .loop .words) (omega arith)) ∙ c .before .before .loop .inv .3) (c .ended4 .ensures)
+
+pub run-spec : {M : Type 1} → statement M
+run-spec =
+    tie.close
+    (tie.spec
+    Inv-loop
+    μ-loop
+    loop-holds
+    mul-at
+    add-at
+    mul-step
+    sub-step
+    part-step-start
+    part-step-end
+    step-requires
+    enum-known-answer
+    lesser-requires
+    add-count
+    enum-told
+    ended-requires
+    same-length
+    returns
+    enum-told-2
+    ended-requires-2
+    same-length-2
+    returns-2
+    enum-told-3
+    ended-requires-3
+    same-length-3
+    returns-3
+    add-steps
+    loop-less
+    loop-again
+    ended-requires-4
+    same-length-4
+    returns-4)
