@@ -10,7 +10,7 @@ use lib.ListN.{length, getD}
 use borrow.Author.Tests.{ltb-true, lt-ltb, eqb-true, eq-eqb, leb-true, leb-false, le-leb}
 use Rattle.laws.specs.Tests.{split, never-both, and-both, eq-or-ne}
 use Rattle.laws.specs.Lists.{All, Distinct, all-weaken, all-at, all-both}
-use Rattle.laws.specs.Search.{has, Rising, has-all, those-each, those-has, those-length, those-distinct, those-rising}
+use Rattle.laws.specs.Search.{has, Rising, has-all, those-has, those-length, those-distinct, those-rising}
 use Rattle.laws.specs.Sort.{insert, sort, Preorder, Ordered, only, insert-all, sort-all, sort-length, sort-distinct, sort-has, sort-ordered, sort-stable-equal}
 use Rattle.model.specs.Job.{noJob}
 use Rattle.model.specs.declared.job.Ask.{Ask}
@@ -21,6 +21,7 @@ use Rattle.model.specs.declared.setting.Setting.{Setting}
 use Rattle.cluster.specs.Usage.{runs, running}
 use Rattle.cluster.specs.Queue.{priorityOf}
 use Rattle.preemptive.specs.Candidate.{openTo, candidate, candidateAt, candidatesByNumber, lower, candidates}
+use Rattle.pass.specs.StayLaws.{candidates-each}
 
 -- ---- who is a candidate
 
@@ -84,25 +85,10 @@ candidate-if aware ask v w =
 -- ---- all of them, each once
 
 module _ (s : Setting) (jobs : List Job) (ask : Ask) where
-  -- each is the number of a loaded job that is a candidate
-  pub candidates-each : All (λ i. (i < 128) × (i < s .jobs) × (candidateAt (s .options .aware) jobs ask i ≡ true)) (candidates s jobs ask)
-  unfolding candidates candidatesByNumber
-  candidates-each =
-      sort-all
-      (lower jobs)
-      (λ i. (i < 128) × (i < s .jobs) × (candidateAt (s .options .aware) jobs ask i ≡ true))
-      (candidatesByNumber (s .options .aware) jobs (s .jobs) ask)
-      (all-weaken
-      (λ i. (0 ≤ i) × (i < 0 + min (s .jobs) 128) × (candidateAt (s .options .aware) jobs ask i ≡ true))
-      (λ i. (i < 128) × (i < s .jobs) × (candidateAt (s .options .aware) jobs ask i ≡ true))
-      (candidatesByNumber (s .options .aware) jobs (s .jobs) ask)
-      (λ i h. (omega (arith, h .1), omega (arith, h .1), h .2))
-      (those-each (candidateAt (s .options .aware) jobs ask) (min (s .jobs) 128) 0))
-
   -- what is among them makes way
   pub candidates-in : (i : ℕ) → has i (candidates s jobs ask) ≡ true → (i < 128) × (i < s .jobs) × MakesWay (s .options .aware) ask (getD jobs i noJob)
   candidates-in i h =
-      let r : (i < 128) × (i < s .jobs) × (candidateAt (s .options .aware) jobs ask i ≡ true) = has-all (λ k. (k < 128) × (k < s .jobs) × (candidateAt (s .options .aware) jobs ask k ≡ true)) i (candidates s jobs ask) candidates-each h in
+      let r : (i < 128) × (i < s .jobs) × (candidateAt (s .options .aware) jobs ask i ≡ true) = has-all (λ k. (k < 128) × (k < s .jobs) × (candidateAt (s .options .aware) jobs ask k ≡ true)) i (candidates s jobs ask) (candidates-each s jobs ask) h in
       (r .0, r .1, candidate-means (s .options .aware) ask (getD jobs i noJob) (r .2))
 
   -- none is left out

@@ -3,10 +3,14 @@
 use model::job::Job;
 use model::job::JobState;
 use model::sizes::JOBS;
+use rows::job::ROW;
+use rows::job::job_places;
+use rows::job::read_job;
 use small::both;
 use small::either;
 use small::lesser;
 ghost use mathlib.Core.Path.{_≡_};
+ghost use Rattle.rows.specs.Job.{jobsOf};
 ghost use Rattle.cluster.specs.Usage.{runs, placed, running, holding, chargeOf, chargeTo, usage};
 
 fn runs_in(s: JobState) -> bool
@@ -65,7 +69,7 @@ pub fn charge(j: Job) -> u64
 }
 
 // What it costs this tenant now.
-fn charge_to(tenant: u8, j: Job) -> u32
+pub fn charge_to(tenant: u8, j: Job) -> u32
     ensures { λ r. ⌜ r ≡ chargeTo tenant j ⌝ }
 {
     let ask = j.ask;
@@ -76,14 +80,14 @@ fn charge_to(tenant: u8, j: Job) -> u32
 }
 
 // A tenant is its number plus 1.
-pub fn usage(jobs: [Job; JOBS], n: usize, tenant: u8) -> u64
-    ensures { λ r. ⌜ r ≡ usage jobs n tenant ⌝ }
+pub fn usage(jobs: &[[u64; ROW]; JOBS], n: usize, tenant: u8) -> u64
+    ensures { λ r. ⌜ r ≡ usage (jobsOf (now (jobs .entry))) n tenant ⌝ }
 {
-    let m = lesser(n, JOBS);
+    let m = lesser(n, job_places(jobs));
     let mut sum: u64 = 0;
     let mut i: usize = 0;
     while i < m {
-        sum += charge_to(tenant, jobs[i]) as u64;
+        sum += charge_to(tenant, read_job(jobs, i)) as u64;
         i += 1;
     }
     sum

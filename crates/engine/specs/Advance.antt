@@ -1,6 +1,7 @@
 -- The event with least time, then lowest insertion number, is taken; the clock becomes its time, and what it says is done.
-use mathlib.Core.Path.{_≡_, sym, ap, _∙_}
+use mathlib.Core.Path.{_≡_, refl, sym, ap, _∙_}
 use mathlib.Core.Bool.{Bool, true, false}
+use mathlib.Core.List.{List}
 use Rattle.laws.specs.Choice.{pick}
 use Rattle.model.specs.declared.event.Event.{Event}
 use Rattle.model.specs.declared.event.EventKind.{EventKind}
@@ -10,6 +11,7 @@ use Rattle.room.specs.Room.{used, eventAt, least, taken}
 use Rattle.happen.specs.Happen.{stale, arrived, completed, timedOut}
 use Rattle.engine.specs.Settle.{settled}
 use Rattle.happen.specs.declared.Moment.{Moment}
+use Rattle.engine.specs.declared.advance.Found.{Found}
 
 -- the event that is next; an empty entry where there is none
 unfoldable pub nextEvent : Plan → Event
@@ -36,18 +38,45 @@ happened p e = byKind (e .kind) p e
 unfoldable pub advanced : Plan → Moment
 advanced p = let m = happened (withEvent p) (nextEvent p) in pick (m .goes) (settled m) m
 
+-- ---- the same with the event that was found
+
+-- the least event, and the entry that it stands in
+unfoldable pub foundIn : List Event → Found
+foundIn events = record { at = least events; event = eventAt events (least events) }
+
+-- the plan without the event in that entry, at its time
+unfoldable pub withFound : Plan → Found → Plan
+withFound p f = record { setting = p .setting; gpus = p .gpus; jobs = p .jobs; queue = p .queue; waiting = p .waiting; events = taken (p .events) (f .at); next = p .next; clock = f .event .time; totals = p .totals }
+
+unfoldable pub advancedBy : Plan → Found → Moment
+advancedBy p f = let m = happened (withFound p f) (f .event) in pick (m .goes) (settled m) m
+
+-- with the least event it is the step
+pub advanced-found : (p : Plan) (f : Found) → f ≡ foundIn (p .events) → advancedBy p f ≡ advanced p
+unfolding advanced advancedBy withEvent withFound nextEvent foundIn
+advanced-found p f h = rw h
+
+pub has-found : (p : Plan) (f : Found) → f ≡ foundIn (p .events) → used (f .event) ≡ hasEvent p
+unfolding hasEvent nextEvent foundIn
+has-found p f h = rw h
+
 -- ---- one case for each return of the code
 
 pub happened-as : (k : EventKind) (p : Plan) (e : Event) (r : Moment) → e .kind ≡ k → r ≡ byKind k p e → r ≡ happened p e
 happened-as k p e r h s = s ∙ ap (λ (x : EventKind). byKind x p e) (sym h)
 
-module _ (p : Plan) (m : Moment) (is : m ≡ happened (withEvent p) (nextEvent p)) where
+module _ (p : Plan) (f : Found) (m : Moment) (is : m ≡ happened (withFound p f) (f .event)) where
   -- a pass follows
-  pub advanced-goes : (r : Moment) → m .goes ≡ true → r ≡ settled m → r ≡ advanced p
-  unfolding advanced
-  advanced-goes r h s = rw (← is) (s ∙ ap (λ (b : Bool). pick b (settled m) m) (sym h))
+  pub found-goes : (r : Moment) → m .goes ≡ true → r ≡ settled m → r ≡ advancedBy p f
+  unfolding advancedBy
+  found-goes r h s = rw (← is) (s ∙ ap (λ (b : Bool). pick b (settled m) m) (sym h))
 
   -- no more is done
-  pub advanced-stays : m .goes ≡ false → m ≡ advanced p
-  unfolding advanced
-  advanced-stays h = rw (← is) (ap (λ (b : Bool). pick b (settled m) m) (sym h))
+  pub found-stays : m .goes ≡ false → m ≡ advancedBy p f
+  unfolding advancedBy
+  found-stays h = rw (← is) (ap (λ (b : Bool). pick b (settled m) m) (sym h))
+
+-- a pass follows the least event
+pub advanced-goes : (p : Plan) (m : Moment) → m ≡ happened (withEvent p) (nextEvent p) → (r : Moment) → m .goes ≡ true → r ≡ settled m → r ≡ advanced p
+unfolding withEvent withFound nextEvent foundIn
+advanced-goes p m is r h s = found-goes p (foundIn (p .events)) m is r h s ∙ advanced-found p (foundIn (p .events)) refl

@@ -43,11 +43,18 @@ module _ (trace ws : List ℕ) where
   unfolding ranAnswer ranWords
   done-short h = let e : ltb (length ws) runWords ≡ true = lt-ltb _ _ h in (rw e, rw e)
 
-  module _ (enough : runWords ≤ length ws) (l : Loaded) (is : l ≡ load trace) (h : Head) (out : List ℕ) where
-    pub done-refused : accepted (l .answer) ≡ false → h ≡ refusedHead (l .answer) → out ≡ over (headWords h) ws → Done trace ws (h .answer) out
-    unfolding ran ranAnswer ranWords
-    done-refused a e o = let f : ltb (length ws) runWords ≡ false = le-ltb _ _ enough in (rw (f, ← is, a, e), rw (o, f, ← is, a, e))
+  -- the head in front of what the run leaves
+  pub done-ran : runWords ≤ length ws → (h : Head) (mid out : List ℕ) → h ≡ ran trace ws .head → mid ≡ ran trace ws .words → out ≡ over (headWords h) mid → Done trace ws (h .answer) out
+  unfolding ranAnswer ranWords
+  done-ran enough h mid out e m o = let f : ltb (length ws) runWords ≡ false = le-ltb _ _ enough in (rw (f, e), rw (o, m, f, e))
 
-    pub done-run : (mid : List ℕ) → accepted (l .answer) ≡ true → h ≡ runTo turns (l .plan) 0 0 ws .head → mid ≡ runTo turns (l .plan) 0 0 ws .words → out ≡ over (headWords h) mid → Done trace ws (h .answer) out
-    unfolding ran ranAnswer ranWords
-    done-run mid a e m o = let f : ltb (length ws) runWords ≡ false = le-ltb _ _ enough in (rw (f, ← is, a, e), rw (o, m, f, ← is, a, e))
+  module _ (l : Loaded) (is : l ≡ load trace) where
+    -- a refused load
+    pub ran-refused : accepted (l .answer) ≡ false → (h : Head) → h ≡ refusedHead (l .answer) → (h ≡ ran trace ws .head) × (ws ≡ ran trace ws .words)
+    unfolding ran
+    ran-refused a h e = (rw (← is, a, e), rw (← is, a))
+
+    -- a loaded plan runs
+    pub ran-loaded : accepted (l .answer) ≡ true → (h : Head) (out : List ℕ) → h ≡ runTo turns (l .plan) 0 0 ws .head → out ≡ runTo turns (l .plan) 0 0 ws .words → (h ≡ ran trace ws .head) × (out ≡ ran trace ws .words)
+    unfolding ran
+    ran-loaded a h out e o = (rw (← is, a) e, rw (← is, a) o)

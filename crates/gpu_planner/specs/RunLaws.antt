@@ -1,5 +1,6 @@
 -- One turn of the run, in the terms of the code: the words behind the decisions are lent to a step and come back.
-use mathlib.Core.Path.{_≡_, sym, ap, _∙_}
+use mathlib.Core.Path.{_≡_, refl, sym, ap, _∙_}
+use mathlib.Core.Bool.{true}
 use mathlib.Core.List.{List, [], _++_, append-nil}
 use Prim.Native.Nat.{ℕ, suc, _+_, _-_, _<_, _≤_, min}
 use native.Mathlib.Omega.{arith}
@@ -9,7 +10,9 @@ use Rattle.model.specs.declared.plan.Plan.{Plan}
 use Rattle.log.specs.Log.{most}
 use Rattle.planner.specs.Step.{wordsNeeded, numberOf, stepped, wordsAfter}
 use Rattle.planner.specs.StepLaws.{accepted-for}
+use Rattle.planner.specs.Lent.{Left, isTaken, step-taken}
 use Rattle.planner.specs.declared.Stepped.{Stepped}
+use Rattle.planner.specs.declared.Taken.{Taken}
 use Rattle.planner.specs.declared.Taken.the-variants.{Decisions}
 use Rattle.gpu_planner.specs.Run.{Run, behind, wordsOn, goesOn, runTo, turns}
 use Rattle.gpu_planner.specs.declared.head.Head.{Head}
@@ -57,6 +60,22 @@ module _ (p : Plan) (steps count : ℕ) (ws out : List ℕ) (s : Stepped) (whole
   -- it goes on, and the decisions stand inside the words
   pub turn-on : (n m : ℕ) → s .answer ≡ Decisions n → m ≡ min n most → length (back (behind count) ws out) ≡ length ws → behind count ≤ length ws → (behind (count + m) ≤ length (back (behind count) ws out)) × (runTo (turns - (steps + 1)) (s .plan) (steps + 1) (count + m) (back (behind count) ws out) ≡ whole)
   turn-on n m e f l b = (omega (arith, lent-enough n e), rw f (rw e at turn-is))
+
+-- the same of a step over lent tables, which hold q after it
+module _ (p : Plan) (steps count : ℕ) (ws out : List ℕ) (a : Taken) (q : Plan) (whole : Run) (told : Left p (lent (behind count) ws) a q out) (more : steps < turns) (inv : runTo (turns - steps) p steps count ws ≡ whole) where
+  abbrev wholeStep : Stepped
+  wholeStep = stepped p (length (lent (behind count) ws))
+
+  pub lent-turn-is : goesOn a steps count (back (behind count) ws out) (λ told. runTo (turns - (steps + 1)) (wholeStep .plan) (steps + 1) told (back (behind count) ws out)) ≡ whole
+  lent-turn-is = rw (told .0) (turn-is p steps count ws out wholeStep whole refl (told .1 .1) more inv)
+
+  pub lent-turn-on : (n m : ℕ) → a ≡ Decisions n → m ≡ min n most → length (back (behind count) ws out) ≡ length ws → behind count ≤ length ws → (behind (count + m) ≤ length (back (behind count) ws out)) × (runTo (turns - (steps + 1)) q (steps + 1) (count + m) (back (behind count) ws out) ≡ whole)
+  lent-turn-on n m e f l b =
+      let s : wholeStep .answer ≡ Decisions n = sym (told .0) ∙ e in
+      let t : isTaken (wholeStep .answer) ≡ true = rw s in
+      let o : (behind (count + m) ≤ length (back (behind count) ws out)) × (runTo (turns - (steps + 1)) (wholeStep .plan) (steps + 1) (count + m) (back (behind count) ws out) ≡ whole) = turn-on p steps count ws out wholeStep whole refl (told .1 .1) more inv n m s f l b in
+      let k : q ≡ wholeStep .plan = told .1 .0 ∙ step-taken p (lent (behind count) ws) t in
+      (o .0, rw k (o .1))
 
 -- the head and the words of a run that is known
 pub both-of : (whole : Run) (h r : Head) (ws : List ℕ) → record { head = h; words = ws } ≡ whole → r ≡ h → (r ≡ whole .head) × (ws ≡ whole .words)

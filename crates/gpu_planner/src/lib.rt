@@ -1,12 +1,13 @@
 // The planner as a library that C and Rust link: a whole trace planned into lent words.
 
 pub mod head;
+pub mod held;
+pub mod lent;
+pub mod load;
 pub mod run;
 
 use head::put_head;
-use head::refused;
-use run::run;
-use trace::answer::is_accepted;
+use load::load_and_run;
 ghost use mathlib.Core.Path.{_≡_};
 ghost use Rattle.gpu_planner.specs.Ran.{ranAnswer, ranWords};
 
@@ -24,15 +25,7 @@ pub extern "C" fn planner_run(trace: &[u8], words: &mut [u64]) -> u64
     if words.len() < RUN_WORDS {
         return 10;
     }
-    let loaded = planner::load(trace);
-    let answer = loaded.answer;
-    if is_accepted(answer) {
-        let plan = loaded.plan;
-        let head = run(plan, words);
-        put_head(words, head);
-        return head.answer;
-    }
-    let head = refused(answer);
+    let head = load_and_run(trace, words);
     put_head(words, head);
     head.answer
 }

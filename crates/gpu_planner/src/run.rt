@@ -1,13 +1,19 @@
 // A loaded plan taken to its end, step by step, with the decisions of each step behind those before.
 
 use crate::head::Head;
+use happen::Rest;
 use log::DECISIONS;
-use model::plan::Plan;
+use model::sizes::EVENTS;
+use model::sizes::JOBS;
 use planner::Taken;
+use planner::lent::step_lent;
+use rows::event::ENTRY;
+use rows::job::ROW;
 use small::lesser;
 ghost use mathlib.Core.Path.{_≡_};
 ghost use Prim.Native.Nat.{_≤_};
 ghost use lib.ListN.{length};
+ghost use Rattle.happen.specs.Happen.{wholePlan};
 ghost use Rattle.gpu_planner.specs.Head.{endedHead};
 ghost use Rattle.gpu_planner.specs.Run.{runTo, turns};
 
@@ -26,19 +32,25 @@ fn ended(answer: u64, steps: u64, count: usize) -> Head
 }
 
 // The run's head; its decisions stand behind the first four words. It runs short of neither words nor turns (`promises`, RunWords).
-pub fn run(loaded: Plan, words: &mut [u64]) -> Head
+// The tables of jobs and events are lent, and changed in place.
+pub fn run(
+    jobs: &mut [[u64; ROW]; JOBS],
+    room: &mut [[u64; ENTRY]; EVENTS],
+    loaded: Rest,
+    words: &mut [u64],
+) -> Head
     requires { ⌜ 4 ≤ length (now words) ⌝ }
-    ensures { λ r. ⌜ r ≡ runTo turns loaded 0 0 (now (words .entry)) .head ⌝ }
-    ensures { λ _. ⌜ now (words .exit) ≡ runTo turns loaded 0 0 (now (words .entry)) .words ⌝ }
+    ensures { λ r. ⌜ r ≡ runTo turns (wholePlan loaded (now (jobs .entry)) (now (room .entry))) 0 0 (now (words .entry)) .head ⌝ }
+    ensures { λ _. ⌜ now (words .exit) ≡ runTo turns (wholePlan loaded (now (jobs .entry)) (now (room .entry))) 0 0 (now (words .entry)) .words ⌝ }
 {
-    let mut plan = loaded;
+    let mut rest = loaded;
     let mut count: usize = 0;
     let mut steps: u64 = 0;
     while steps < TURNS {
         let at = 4 + 4 * count;
-        let stepped = planner::step(plan, &mut words[at..]);
+        let stepped = step_lent(jobs, room, rest, &mut words[at..]);
         let answer = stepped.answer;
-        plan = stepped.plan;
+        rest = stepped.rest;
         match answer {
             Taken::Decisions(n) => count = count + lesser(n, DECISIONS),
             Taken::NoEvent => return ended(0, steps, count),

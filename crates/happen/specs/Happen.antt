@@ -1,6 +1,6 @@
 -- What an event says: an arrival, a completion, a timeout; a stale one changes nothing more.
 use mathlib.Core.Bool.{Bool, true, false, _&&_}
-use mathlib.Core.List.{map}
+use mathlib.Core.List.{List, map}
 use Prim.Native.Nat.{ℕ}
 use lib.Dec.{eqb}
 use lib.ListN.{length, getD, set}
@@ -24,7 +24,18 @@ use Rattle.room.specs.declared.ahead.Ahead.{Ahead}
 use Rattle.starts.specs.Timeout.{timeoutQueued}
 use Rattle.starts.specs.Begin.{amount}
 use Rattle.line.specs.Keep.{waits, stillWaiting}
+use Rattle.rows.specs.Job.{jobsOf}
+use Rattle.rows.specs.Event.{eventsOf}
 use Rattle.happen.specs.declared.Moment.{Moment}
+use Rattle.happen.specs.declared.Rest.{Rest}
+use Rattle.happen.specs.declared.Point.{Point}
+
+-- the plan, with the tables that were lent
+abbrev pub wholePlan : Rest → List (List ℕ) → List (List ℕ) → Plan
+wholePlan r jobs room = record { setting = r .setting; gpus = r .gpus; jobs = jobsOf jobs; queue = r .queue; waiting = r .waiting; events = eventsOf room; next = r .next; clock = r .clock; totals = r .totals }
+
+abbrev pub wholeMoment : Point → List (List ℕ) → List (List ℕ) → Moment
+wholeMoment m jobs room = record { plan = wholePlan (m .rest) jobs room; log = m .log; ok = m .ok; goes = m .goes }
 
 abbrev pub jobOf : Plan → ℕ → Job
 jobOf p id = getD (p .jobs) id noJob
@@ -51,6 +62,20 @@ joins p id j =
       next = p .next;
       clock = p .clock;
       totals = Noted.joined (p .totals) waiting;
+    }
+
+-- the same of the rest of a plan: its job is written into the table that was lent
+abbrev pub joinsRest : Rest → ℕ → Rest
+joinsRest r id =
+    let waiting = onward (r .waiting) Sizes.jobs in
+    record {
+      setting = r .setting;
+      gpus = r .gpus;
+      queue = set (r .queue) (r .waiting) id;
+      waiting = waiting;
+      next = r .next;
+      clock = r .clock;
+      totals = Noted.joined (r .totals) waiting;
     }
 
 abbrev pub withAhead : Plan → Ahead → Plan

@@ -12,16 +12,23 @@ use log::Log;
 use log::empty_log;
 use log::tell;
 use model::event::Event;
+use model::gpu::Gpu;
 use model::job::Job;
-use model::job::job_at;
-use model::job::put_job;
 use model::number::bits_of;
 use model::number::is_permitted;
 use model::plan::Plan;
 use model::plan::put_queue;
+use model::setting::Setting;
+use model::sizes::EVENTS;
+use model::sizes::GPUS;
 use model::sizes::JOBS;
+use model::totals::Totals;
 use noted::after_join;
-use room::ahead::Ahead;
+use room::ahead::Next;
+use rows::event::ENTRY;
+use rows::job::ROW;
+use rows::job::read_job;
+use rows::job::write_job;
 use small::both;
 use small::onward;
 use small::plus_one;
@@ -29,7 +36,10 @@ use small::wide_id;
 use starts::begin::amount;
 use starts::timeout::queue_timeout;
 ghost use mathlib.Core.Path.{_≡_};
-ghost use Rattle.happen.specs.Happen.{stale, said, joins, arrives, completes, timesOut, ofRun, ofTimeout, arrived, completed, timedOut};
+ghost use mathlib.Core.List.{List};
+ghost use Prim.Native.Nat.{ℕ};
+ghost use Rattle.happen.specs.Happen.{wholePlan, wholeMoment, joinsRest};
+ghost use Rattle.happen.specs.Happen.{stale, said, arrives, completes, timesOut, ofRun, ofTimeout, arrived, completed, timedOut};
 
 // plan is the plan so far and log the decisions; ok: every number stored so far is permitted; goes: a pass follows.
 pub struct Moment {
@@ -39,12 +49,31 @@ pub struct Moment {
     pub goes: bool,
 }
 
+// A plan without the tables of jobs and events, which are lent.
+pub struct Rest {
+    pub setting: Setting,
+    pub gpus: [Gpu; GPUS],
+    pub queue: [u16; JOBS],
+    pub waiting: usize,
+    pub next: u64,
+    pub clock: f64,
+    pub totals: Totals,
+}
+
+// A moment without them.
+pub struct Point {
+    pub rest: Rest,
+    pub log: Log,
+    pub ok: bool,
+    pub goes: bool,
+}
+
 // Nothing more is done.
-pub fn nothing(plan: Plan) -> Moment
-    ensures { λ r. ⌜ r ≡ stale plan ⌝ }
+pub fn nothing(rest: Rest) -> Point
+    ensures { λ r. ⌜ ((jobs room : List (List ℕ)) → wholeMoment r jobs room ≡ stale (wholePlan rest jobs room)) ⌝ }
 {
-    Moment {
-        plan: plan,
+    Point {
+        rest: rest,
         log: empty_log(),
         ok: true,
         goes: false,
@@ -52,29 +81,26 @@ pub fn nothing(plan: Plan) -> Moment
 }
 
 // The step's first decision, at the clock; a pass follows.
-fn say(plan: Plan, ok: bool, kind: Kind, job: u16, other: u16) -> Moment
-    ensures { λ r. ⌜ r ≡ said plan ok kind job other ⌝ }
+fn say(rest: Rest, ok: bool, kind: Kind, job: u16, other: u16) -> Point
+    ensures { λ r. ⌜ ((jobs room : List (List ℕ)) → wholeMoment r jobs room ≡ said (wholePlan rest jobs room) ok kind job other) ⌝ }
 {
-    Moment {
-        plan: plan,
-        log: tell(empty_log(), bits_of(plan.clock), kind, job, other),
+    Point {
+        rest: rest,
+        log: tell(empty_log(), bits_of(rest.clock), kind, job, other),
         ok: ok,
         goes: true,
     }
 }
 
 // The job waits at the queue's end.
-fn join_queue(plan: Plan, id: u16, j: Job) -> Plan
-    ensures { λ r. ⌜ r ≡ joins plan id j ⌝ }
+fn join_queue(rest: Rest, id: u16) -> Rest
+    ensures { λ r. ⌜ r ≡ joinsRest rest id ⌝ }
 {
-    let jobs = plan.jobs;
-    let queue = plan.queue;
-    let totals = plan.totals;
-    let waiting = onward(plan.waiting, JOBS);
-    let table = put_job(jobs, wide_id(id), j);
-    let line = put_queue(queue, plan.waiting, id);
-    let mut after = plan;
-    after.jobs = table;
+    let queue = rest.queue;
+    let totals = rest.totals;
+    let waiting = onward(rest.waiting, JOBS);
+    let line = put_queue(queue, rest.waiting, id);
+    let mut after = rest;
     after.queue = line;
     after.waiting = waiting;
     after.totals = after_join(totals, waiting as u64);
@@ -82,54 +108,51 @@ fn join_queue(plan: Plan, id: u16, j: Job) -> Plan
 }
 
 // A gang job with a timeout gets one at arrival + timeout.
-fn arrive(plan: Plan, id: u16) -> Moment
-    ensures { λ r. ⌜ r ≡ arrives plan id ⌝ }
+fn arrive(
+    jobs: &mut [[u64; ROW]; JOBS],
+    room: &mut [[u64; ENTRY]; EVENTS],
+    rest: Rest,
+    id: u16,
+) -> Point
+    ensures { λ r. ⌜ wholeMoment r (now (jobs .exit)) (now (room .exit)) ≡ arrives (wholePlan rest (now (jobs .entry)) (now (room .entry))) id ⌝ }
 {
-    let jobs = plan.jobs;
-    let events = plan.events;
-    let j = wait(job_at(jobs, wide_id(id)), plan.clock);
+    let j = wait(read_job(jobs, wide_id(id)), rest.clock);
     let ask = j.ask;
-    let a = Ahead {
-        events: events,
-        next: plan.next,
+    let a = Next {
+        next: rest.next,
         ok: true,
     };
-    let ahead = queue_timeout(a, id, j, ask.arrival);
-    let room = ahead.events;
-    let mut after = join_queue(plan, id, j);
-    after.events = room;
+    let ahead = queue_timeout(room, a, id, j, ask.arrival);
+    write_job(jobs, wide_id(id), j);
+    let mut after = join_queue(rest, id);
     after.next = ahead.next;
     say(after, ahead.ok, Kind::Arrived, id, 0)
 }
 
 // What the job held is free.
-fn complete(plan: Plan, id: u16) -> Moment
-    ensures { λ r. ⌜ r ≡ completes plan id ⌝ }
+fn complete(jobs: &mut [[u64; ROW]; JOBS], rest: Rest, id: u16) -> Point
+    ensures { λ r. ⌜ ((room : List (List ℕ)) → wholeMoment r (now (jobs .exit)) room ≡ completes (wholePlan rest (now (jobs .entry)) room) id) ⌝ }
 {
-    let jobs = plan.jobs;
-    let gpus = plan.gpus;
-    let j = job_at(jobs, wide_id(id));
+    let gpus = rest.gpus;
+    let j = read_job(jobs, wide_id(id));
     let ask = j.ask;
-    let table = put_job(jobs, wide_id(id), end(j));
+    write_job(jobs, wide_id(id), end(j));
     let free = free_all(gpus, plus_one(id));
-    let mut after = plan;
-    after.jobs = table;
+    let mut after = rest;
     after.gpus = free;
     say(after, true, Kind::Completed, id, amount(ask))
 }
 
 // The job has failed and leaves the queue; its waited has to be permitted.
-fn time_out(plan: Plan, id: u16) -> Moment
-    ensures { λ r. ⌜ r ≡ timesOut plan id ⌝ }
+fn time_out(jobs: &mut [[u64; ROW]; JOBS], rest: Rest, id: u16) -> Point
+    ensures { λ r. ⌜ ((room : List (List ℕ)) → wholeMoment r (now (jobs .exit)) room ≡ timesOut (wholePlan rest (now (jobs .entry)) room) id) ⌝ }
 {
-    let jobs = plan.jobs;
-    let queue = plan.queue;
-    let j = fail(job_at(jobs, wide_id(id)), plan.clock);
-    let table = put_job(jobs, wide_id(id), j);
-    let kept = keep_waiting(table, queue, plan.waiting);
+    let queue = rest.queue;
+    let j = fail(read_job(jobs, wide_id(id)), rest.clock);
+    write_job(jobs, wide_id(id), j);
+    let kept = keep_waiting(jobs, queue, rest.waiting);
     let line = kept.ids;
-    let mut after = plan;
-    after.jobs = table;
+    let mut after = rest;
     after.queue = line;
     after.waiting = kept.count;
     say(after, is_permitted(j.waited), Kind::Failed, id, 0)
@@ -149,28 +172,31 @@ fn is_of_timeout(j: Job, generation: u32) -> bool
     both(is_waiting(j), j.timeouts == generation)
 }
 
-pub fn on_arrival(plan: Plan, e: Event) -> Moment
-    ensures { λ r. ⌜ r ≡ arrived plan e ⌝ }
+pub fn on_arrival(
+    jobs: &mut [[u64; ROW]; JOBS],
+    room: &mut [[u64; ENTRY]; EVENTS],
+    rest: Rest,
+    e: Event,
+) -> Point
+    ensures { λ r. ⌜ wholeMoment r (now (jobs .exit)) (now (room .exit)) ≡ arrived (wholePlan rest (now (jobs .entry)) (now (room .entry))) e ⌝ }
 {
-    arrive(plan, e.job)
+    arrive(jobs, room, rest, e.job)
 }
 
-pub fn on_completion(plan: Plan, e: Event) -> Moment
-    ensures { λ r. ⌜ r ≡ completed plan e ⌝ }
+pub fn on_completion(jobs: &mut [[u64; ROW]; JOBS], rest: Rest, e: Event) -> Point
+    ensures { λ r. ⌜ ((room : List (List ℕ)) → wholeMoment r (now (jobs .exit)) room ≡ completed (wholePlan rest (now (jobs .entry)) room) e) ⌝ }
 {
-    let jobs = plan.jobs;
-    if is_of_run(job_at(jobs, wide_id(e.job)), e.generation) {
-        return complete(plan, e.job);
+    if is_of_run(read_job(jobs, wide_id(e.job)), e.generation) {
+        return complete(jobs, rest, e.job);
     }
-    nothing(plan)
+    nothing(rest)
 }
 
-pub fn on_timeout(plan: Plan, e: Event) -> Moment
-    ensures { λ r. ⌜ r ≡ timedOut plan e ⌝ }
+pub fn on_timeout(jobs: &mut [[u64; ROW]; JOBS], rest: Rest, e: Event) -> Point
+    ensures { λ r. ⌜ ((room : List (List ℕ)) → wholeMoment r (now (jobs .exit)) room ≡ timedOut (wholePlan rest (now (jobs .entry)) room) e) ⌝ }
 {
-    let jobs = plan.jobs;
-    if is_of_timeout(job_at(jobs, wide_id(e.job)), e.generation) {
-        return time_out(plan, e.job);
+    if is_of_timeout(read_job(jobs, wide_id(e.job)), e.generation) {
+        return time_out(jobs, rest, e.job);
     }
-    nothing(plan)
+    nothing(rest)
 }

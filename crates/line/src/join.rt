@@ -4,19 +4,20 @@ use eligible::chosen::no_ids;
 use log::Kind;
 use log::Log;
 use log::tell;
-use model::job::Job;
-use model::job::job_at;
 use model::number::bits_of;
 use model::number::is_permitted;
 use model::plan::put_queue;
 use model::sizes::JOBS;
 use model::totals::Totals;
 use noted::after_eviction;
+use rows::job::ROW;
+use rows::job::read_job;
 use small::both;
 use small::lesser;
 use small::onward;
 use small::wide_id;
 ghost use mathlib.Core.Path.{_≡_};
+ghost use Rattle.rows.specs.Job.{jobsOf};
 ghost use lib.ListN.{take};
 ghost use Rattle.laws.specs.Search.{has};
 ghost use Rattle.line.specs.Line.{newLine, joined, joinedAll};
@@ -71,19 +72,19 @@ fn join(line: Line, clock: f64, v: u16, by: u16, remaining: f64) -> Line
 pub fn join_all(
     line: Line,
     clock: f64,
-    jobs: [Job; JOBS],
+    jobs: &[[u64; ROW]; JOBS],
     ids: [u16; JOBS],
     count: usize,
     by: u16,
 ) -> Line
-    ensures { λ r. ⌜ r ≡ joinedAll clock jobs by line (take count ids) ⌝ }
+    ensures { λ r. ⌜ r ≡ joinedAll clock (jobsOf (now (jobs .entry))) by line (take count ids) ⌝ }
 {
     let n = lesser(count, JOBS);
     let mut after = line;
     let mut i: usize = 0;
     while i < n {
         let v = ids[i];
-        let j = job_at(jobs, wide_id(v));
+        let j = read_job(jobs, wide_id(v));
         let next = join(after, clock, v, by, j.remaining);
         after = next;
         i = i + 1;

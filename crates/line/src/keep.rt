@@ -4,11 +4,13 @@ use eligible::chosen::Chosen;
 use eligible::chosen::no_ids;
 use model::job::Job;
 use model::job::JobState;
-use model::job::job_at;
 use model::sizes::JOBS;
+use rows::job::ROW;
+use rows::job::read_job;
 use small::lesser;
 use small::wide_id;
 ghost use mathlib.Core.Path.{_≡_};
+ghost use Rattle.rows.specs.Job.{jobsOf};
 ghost use Rattle.eligible.specs.Chosen.{chosen};
 ghost use Rattle.line.specs.Keep.{waitsIn, waits, stillWaiting};
 
@@ -33,8 +35,8 @@ pub fn is_waiting(j: Job) -> bool
 }
 
 // Of the first n of the queue those that wait, in their order.
-pub fn keep_waiting(jobs: [Job; JOBS], queue: [u16; JOBS], n: usize) -> Chosen
-    ensures { λ r. ⌜ r ≡ chosen (stillWaiting jobs queue n) ⌝ }
+pub fn keep_waiting(jobs: &[[u64; ROW]; JOBS], queue: [u16; JOBS], n: usize) -> Chosen
+    ensures { λ r. ⌜ r ≡ chosen (stillWaiting (jobsOf (now (jobs .entry))) queue n) ⌝ }
 {
     let m = lesser(n, JOBS);
     let mut ids = no_ids();
@@ -42,7 +44,7 @@ pub fn keep_waiting(jobs: [Job; JOBS], queue: [u16; JOBS], n: usize) -> Chosen
     let mut i: usize = 0;
     while i < m {
         let x = queue[i];
-        if is_waiting(job_at(jobs, wide_id(x))) {
+        if is_waiting(read_job(jobs, wide_id(x))) {
             ids[k] = x;
             k = k + 1;
         }

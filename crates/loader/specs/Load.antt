@@ -17,10 +17,12 @@ use Rattle.trace.specs.declared.answer.Answer.the-variants.{Accepted, EndsEarly
 use Rattle.trace.specs.declared.record.Record.{Record}
 use Rattle.trace.specs.declared.record.Record.the-variants as R
 use Rattle.loader.specs.Fault.{faultOf}
-use Rattle.loader.specs.Tables.{emptyTables, putRecord}
+use Rattle.loader.specs.Tables.{wholeTables, emptyTables, putRecord}
 use Rattle.loader.specs.Arrivals.{arrivals}
 use Rattle.loader.specs.declared.tables.Tables.{Tables}
+use Rattle.loader.specs.declared.tables.Loading.{Loading}
 use Rattle.loader.specs.declared.load.Turn.{Turn}
+use Rattle.loader.specs.declared.load.Going.{Going}
 use Rattle.loader.specs.declared.load.Loaded.{Loaded}
 
 -- The plan of the loaded tables: nobody waits, the arrivals are queued in job order, the clock is 0.0.
@@ -41,6 +43,16 @@ turnOver answer tables = record { over = true; answer = answer; at = 0; tables =
 
 abbrev pub turnOn : ℕ → Tables → Turn
 turnOn at tables = record { over = false; answer = Accepted; at = at; tables = tables }
+
+-- a turn, with the tables that were lent
+abbrev pub wholeTurn : Going → List (List ℕ) → List (List ℕ) → Turn
+wholeTurn u gpus jobs = record { over = u .over; answer = u .answer; at = u .at; tables = wholeTables (u .loading) gpus jobs }
+
+abbrev pub goingOver : Answer → Loading → Going
+goingOver answer t = record { over = true; answer = answer; at = 0; loading = t }
+
+abbrev pub goingOn : ℕ → Loading → Going
+goingOn at t = record { over = false; answer = Accepted; at = at; loading = t }
 
 -- A whole record from a place to its end. The end record ends the load, and 8 where bytes follow; another record is put into the tables, unless it has a fault.
 unfoldable pub follow : ℕ → ℕ → ℕ → Record → Tables → Turn
@@ -67,6 +79,10 @@ unfoldable pub turns : ℕ → List ℕ → ℕ → Tables → Loaded
 turns zero trace at t = refused (EndsEarly (length trace))
 turns (suc m) trace at t = let u = turn trace at t in pick (u .over) (finished u) (turns m trace (u .at) (u .tables))
 
--- The load of a trace.
+-- The load of a trace into tables.
+unfoldable pub loadInto : List ℕ → Tables → Loaded
+loadInto trace t = pick (ltb Sizes.traceBytes (length trace)) (refused (TooLong Sizes.traceBytes)) (turns (length trace) trace 0 t)
+
+-- The load of a trace: into tables that hold nothing yet.
 unfoldable pub load : List ℕ → Loaded
 load trace = pick (ltb Sizes.traceBytes (length trace)) (refused (TooLong Sizes.traceBytes)) (turns (length trace) trace 0 emptyTables)

@@ -1,20 +1,26 @@
--- Laws of the turns: one turn of those that are left, and where the next begins.
+-- Laws of the turns: one turn of those that are left, and where the next begins; the load into tables of zeros.
 use mathlib.Core.Path.{_≡_}
 use mathlib.Core.Bool.{Bool, true, false}
 use mathlib.Core.List.{List}
 use Prim.Native.Nat.{ℕ, suc, _+_, _-_, _≤_, _<_}
 use native.Mathlib.Omega.{arith}
 use lib.Dec.{eqb}
-use lib.ListN.{length, drop, length-drop}
+use lib.ListN.{length, drop, replicate, length-drop}
 use Rattle.laws.specs.Choice.{pick, pick-either}
+use Rattle.model.specs.Sizes as Sizes
+use Rattle.model.specs.Gpu.{noGpu}
+use Rattle.model.specs.Job.{noJob}
+use Rattle.rows.specs.Rows.{same-rows}
+use Rattle.rows.specs.Gpu.{gpuOf, zeros-gpu}
+use Rattle.rows.specs.Job.{jobOf, zeros-job}
 use Rattle.trace.specs.Answer.{accepted, shifted, placeOf}
 use Rattle.trace.specs.Record.{recordRead}
 use Rattle.trace.specs.InsideLaws.{record-inside}
 use Rattle.trace.specs.declared.answer.Answer.the-variants.{Accepted, EndsEarly, AfterEnd}
 use Rattle.trace.specs.declared.record.Record.{Record}
 use Rattle.loader.specs.Fault.{faultOf}
-use Rattle.loader.specs.Tables.{putRecord}
-use Rattle.loader.specs.Load.{isEnd, turnOver, turnOn, follow, turn, finished, refused, turns}
+use Rattle.loader.specs.Tables.{wholeTables, noLoading, emptyTables, putRecord}
+use Rattle.loader.specs.Load.{isEnd, turnOver, turnOn, follow, turn, finished, refused, turns, loadInto, load}
 use Rattle.loader.specs.declared.tables.Tables.{Tables}
 use Rattle.loader.specs.declared.load.Turn.{Turn}
 
@@ -59,3 +65,13 @@ module _ (trace : List ℕ) (n i at : ℕ) (t : Tables) (more : i < n) where
 pub turns-end : (trace : List ℕ) (n i at : ℕ) (t : Tables) → n ≤ i → turns (n - i) trace at t ≡ refused (EndsEarly (length trace))
 unfolding turns
 turns-end trace n i at t h = let e : n - i ≡ 0 = omega arith in rw e
+
+-- tables of zeros hold nothing
+pub zeros-tables : wholeTables noLoading (replicate Sizes.gpus (replicate 5 0)) (replicate Sizes.jobs (replicate 22 0)) ≡ emptyTables
+unfolding noLoading emptyTables
+zeros-tables = rw (same-rows gpuOf Sizes.gpus (replicate 5 0) noGpu zeros-gpu, same-rows jobOf Sizes.jobs (replicate 22 0) noJob zeros-job)
+
+-- a load is one into them
+pub load-zeros : (trace : List ℕ) → loadInto trace (wholeTables noLoading (replicate Sizes.gpus (replicate 5 0)) (replicate Sizes.jobs (replicate 22 0))) ≡ load trace
+unfolding loadInto load
+load-zeros trace = rw zeros-tables

@@ -1,5 +1,6 @@
 -- The tables as they are loaded: each record is put after those before it.
 use mathlib.Core.Bool.{Bool, true, false}
+use mathlib.Core.List.{List}
 use Prim.Native.Nat.{ℕ, _+_, _-_, _<_}
 use lib.ListN.{set, replicate}
 use Rattle.model.specs.Sizes as Sizes
@@ -13,7 +14,20 @@ use Rattle.model.specs.declared.setting.Options.{Options}
 use Rattle.trace.specs.declared.record.Card.{Card}
 use Rattle.trace.specs.declared.record.Record.{Record}
 use Rattle.trace.specs.declared.record.Record.the-variants as R
+use Rattle.rows.specs.Gpu.{gpusOf}
+use Rattle.rows.specs.Job.{jobsOf}
 use Rattle.loader.specs.declared.tables.Tables.{Tables}
+use Rattle.loader.specs.declared.tables.Loading.{Loading}
+
+-- the tables, with those that were lent
+abbrev pub wholeTables : Loading → List (List ℕ) → List (List ℕ) → Tables
+wholeTables t gpus jobs = record { setting = t .setting; gpus = gpusOf gpus; jobs = jobsOf jobs; told = t .told }
+
+abbrev pub settingLoading : Loading → Setting → Loading
+settingLoading t s = record { setting = s; told = t .told }
+
+unfoldable pub noLoading : Loading
+noLoading = record { setting = emptySetting; told = false }
 
 -- nothing is loaded yet
 unfoldable pub emptyTables : Tables
@@ -59,6 +73,16 @@ putAsk t ask = record { setting = oneJob (t .setting); gpus = t .gpus; jobs = se
 -- 6: the options
 unfoldable pub putOptions : Tables → Options → Tables
 putOptions t o = record { setting = withOptions (t .setting) o; gpus = t .gpus; jobs = t .jobs; told = true }
+
+-- what a GPU, a job and the options change beside the tables
+abbrev pub cardLoading : Loading → Loading
+cardLoading t = record { setting = oneGpu (t .setting); told = t .told }
+
+abbrev pub askLoading : Loading → Loading
+askLoading t = record { setting = oneJob (t .setting); told = t .told }
+
+abbrev pub optionsLoading : Loading → Options → Loading
+optionsLoading t o = record { setting = withOptions (t .setting) o; told = true }
 
 -- The tables after one more record.
 abbrev pub putRecord : Tables → Record → Tables

@@ -1,15 +1,24 @@
 // Loading a trace: its records left to right, until the end record or the first refusal.
 
-use crate::arrivals::arrivals;
+use crate::arrivals::write_arrivals;
 use crate::fault::fault_of;
+use crate::tables::Loading;
 use crate::tables::Tables;
-use crate::tables::empty_tables;
+use crate::tables::no_loading;
 use crate::tables::put_record;
 use model::plan::Plan;
 use model::plan::empty_plan;
+use model::sizes::EVENTS;
+use model::sizes::GPUS;
 use model::sizes::JOBS;
 use model::sizes::TRACE_BYTES;
 use model::totals::no_totals;
+use rows::event::ENTRY;
+use rows::event::read_events;
+use rows::gpu::CARD;
+use rows::gpu::read_gpus;
+use rows::job::ROW;
+use rows::job::read_jobs;
 use trace::answer::Answer;
 use trace::answer::is_accepted;
 use trace::answer::shift;
@@ -18,7 +27,8 @@ use trace::record::read_record;
 ghost use mathlib.Core.Path.{_≡_};
 ghost use Prim.Native.Nat.{_≤_};
 ghost use lib.ListN.{length};
-ghost use Rattle.loader.specs.Load.{planOf, isEnd, turnOver, turnOn, follow, turn, refused, finished, load};
+ghost use Rattle.loader.specs.Tables.{wholeTables, noLoading};
+ghost use Rattle.loader.specs.Load.{planOf, isEnd, wholeTurn, goingOver, goingOn, follow, turn, refused, finished, turns, loadInto, load};
 
 // The answer beside the plan; refused, the plan is the empty one.
 pub struct Loaded {
@@ -34,23 +44,12 @@ pub struct Turn {
     pub tables: Tables,
 }
 
-fn plan_of(t: Tables) -> Plan
-    ensures { λ r. ⌜ r ≡ planOf t ⌝ }
-{
-    let setting = t.setting;
-    let gpus = t.gpus;
-    let jobs = t.jobs;
-    Plan {
-        setting: setting,
-        gpus: gpus,
-        jobs: jobs,
-        queue: [0; JOBS],
-        waiting: 0,
-        events: arrivals(jobs, setting.jobs as usize),
-        next: setting.jobs as u64,
-        clock: 0.0,
-        totals: no_totals(),
-    }
+// The same without the tables of GPUs and jobs, which are lent.
+pub struct Going {
+    pub over: bool,
+    pub answer: Answer,
+    pub at: usize,
+    pub loading: Loading,
 }
 
 fn is_end(r: Record) -> bool
@@ -67,31 +66,39 @@ fn is_end(r: Record) -> bool
     }
 }
 
-fn turn_over(answer: Answer, tables: Tables) -> Turn
-    ensures { λ r. ⌜ r ≡ turnOver answer tables ⌝ }
+fn turn_over(answer: Answer, t: Loading) -> Going
+    ensures { λ r. ⌜ r ≡ goingOver answer t ⌝ }
 {
-    Turn {
+    Going {
         over: true,
         answer: answer,
         at: 0,
-        tables: tables,
+        loading: t,
     }
 }
 
-fn turn_on(at: usize, tables: Tables) -> Turn
-    ensures { λ r. ⌜ r ≡ turnOn at tables ⌝ }
+fn turn_on(at: usize, t: Loading) -> Going
+    ensures { λ r. ⌜ r ≡ goingOn at t ⌝ }
 {
-    Turn {
+    Going {
         over: false,
         answer: Answer::Accepted,
         at: at,
-        tables: tables,
+        loading: t,
     }
 }
 
 // A whole record that begins at a place and ends at another, in a trace of so many bytes.
-fn follow(length: usize, at: usize, end: usize, r: Record, t: Tables) -> Turn
-    ensures { λ u. ⌜ u ≡ follow length at end r t ⌝ }
+fn follow(
+    gpus: &mut [[u64; CARD]; GPUS],
+    jobs: &mut [[u64; ROW]; JOBS],
+    length: usize,
+    at: usize,
+    end: usize,
+    r: Record,
+    t: Loading,
+) -> Going
+    ensures { λ u. ⌜ wholeTurn u (now (gpus .exit)) (now (jobs .exit)) ≡ follow length at end r (wholeTables t (now (gpus .entry)) (now (jobs .entry))) ⌝ }
 {
     if is_end(r) {
         if end == length {
@@ -102,22 +109,81 @@ fn follow(length: usize, at: usize, end: usize, r: Record, t: Tables) -> Turn
     let setting = t.setting;
     let fault = fault_of(setting, t.told, at, r);
     if is_accepted(fault) {
-        return turn_on(end, put_record(t, r, at));
+        return turn_on(end, put_record(gpus, jobs, t, r, at));
     }
     turn_over(fault, t)
 }
 
-fn take_turn(trace: &[u8], at: usize, t: Tables) -> Turn
+fn take_turn(
+    trace: &[u8],
+    gpus: &mut [[u64; CARD]; GPUS],
+    jobs: &mut [[u64; ROW]; JOBS],
+    at: usize,
+    t: Loading,
+) -> Going
     requires { ⌜ at ≤ length (now trace) ⌝ }
-    ensures { λ u. ⌜ u ≡ turn (now (trace .entry)) at t ⌝ }
+    ensures { λ u. ⌜ wholeTurn u (now (gpus .exit)) (now (jobs .exit)) ≡ turn (now (trace .entry)) at (wholeTables t (now (gpus .entry)) (now (jobs .entry))) ⌝ }
 {
     let read = read_record(&trace[at..]);
     let answer = read.answer;
     let found = read.found;
     if is_accepted(answer) {
-        return follow(trace.len(), at, at + read.used, found, t);
+        return follow(gpus, jobs, trace.len(), at, at + read.used, found, t);
     }
     turn_over(shift(at, answer), t)
+}
+
+// All records, until the end record or the first refusal.
+fn take_turns(trace: &[u8], gpus: &mut [[u64; CARD]; GPUS], jobs: &mut [[u64; ROW]; JOBS]) -> Going
+    ensures { λ r. ⌜ finished (wholeTurn r (now (gpus .exit)) (now (jobs .exit))) ≡ turns (length (now (trace .entry))) (now (trace .entry)) 0 (wholeTables noLoading (now (gpus .entry)) (now (jobs .entry))) ⌝ }
+{
+    let n = trace.len();
+    let mut t = no_loading();
+    let mut at: usize = 0;
+    let mut i: usize = 0;
+    while i < n {
+        let u = take_turn(trace, gpus, jobs, at, t);
+        if u.over {
+            return u;
+        }
+        t = u.loading;
+        at = u.at;
+        i = i + 1;
+    }
+    turn_over(Answer::EndsEarly(n), t)
+}
+
+// Loads a trace into lent tables, which hold nothing yet.
+pub fn load_tables(
+    trace: &[u8],
+    gpus: &mut [[u64; CARD]; GPUS],
+    jobs: &mut [[u64; ROW]; JOBS],
+) -> Going
+    ensures { λ r. ⌜ finished (wholeTurn r (now (gpus .exit)) (now (jobs .exit))) ≡ loadInto (now (trace .entry)) (wholeTables noLoading (now (gpus .entry)) (now (jobs .entry))) ⌝ }
+{
+    if TRACE_BYTES < trace.len() {
+        return turn_over(Answer::TooLong(TRACE_BYTES), no_loading());
+    }
+    take_turns(trace, gpus, jobs)
+}
+
+fn plan_of(t: Loading, gpus: &[[u64; CARD]; GPUS], jobs: &[[u64; ROW]; JOBS]) -> Plan
+    ensures { λ r. ⌜ r ≡ planOf (wholeTables t (now (gpus .entry)) (now (jobs .entry))) ⌝ }
+{
+    let setting = t.setting;
+    let mut room = [[0u64; ENTRY]; EVENTS];
+    write_arrivals(&mut room, jobs, setting.jobs as usize);
+    Plan {
+        setting: setting,
+        gpus: read_gpus(gpus),
+        jobs: read_jobs(jobs),
+        queue: [0; JOBS],
+        waiting: 0,
+        events: read_events(&room),
+        next: setting.jobs as u64,
+        clock: 0.0,
+        totals: no_totals(),
+    }
 }
 
 fn refused(answer: Answer) -> Loaded
@@ -129,16 +195,16 @@ fn refused(answer: Answer) -> Loaded
     }
 }
 
-fn finished(t: Turn) -> Loaded
-    ensures { λ r. ⌜ r ≡ finished t ⌝ }
+fn finished(t: Going, gpus: &[[u64; CARD]; GPUS], jobs: &[[u64; ROW]; JOBS]) -> Loaded
+    ensures { λ r. ⌜ r ≡ finished (wholeTurn t (now (gpus .entry)) (now (jobs .entry))) ⌝ }
 {
     let answer = t.answer;
-    let tables = t.tables;
+    let loading = t.loading;
     let accepted = is_accepted(answer);
     if accepted {
         return Loaded {
             answer: answer,
-            plan: plan_of(tables),
+            plan: plan_of(loading, gpus, jobs),
         };
     }
     refused(answer)
@@ -147,21 +213,8 @@ fn finished(t: Turn) -> Loaded
 pub fn load(trace: &[u8]) -> Loaded
     ensures { λ r. ⌜ r ≡ load (now (trace .entry)) ⌝ }
 {
-    let n = trace.len();
-    if TRACE_BYTES < n {
-        return refused(Answer::TooLong(TRACE_BYTES));
-    }
-    let mut tables = empty_tables();
-    let mut at: usize = 0;
-    let mut i: usize = 0;
-    while i < n {
-        let u = take_turn(trace, at, tables);
-        if u.over {
-            return finished(u);
-        }
-        tables = u.tables;
-        at = u.at;
-        i = i + 1;
-    }
-    refused(Answer::EndsEarly(n))
+    let mut gpus = [[0u64; CARD]; GPUS];
+    let mut jobs = [[0u64; ROW]; JOBS];
+    let t = load_tables(trace, &mut gpus, &mut jobs);
+    finished(t, &gpus, &jobs)
 }

@@ -1,13 +1,9 @@
 // The tables as they are loaded: a record is put after those before it.
 
 use model::gpu::Gpu;
-use model::gpu::no_gpu;
-use model::gpu::put_gpu;
 use model::job::Ask;
 use model::job::Job;
 use model::job::new_job;
-use model::job::no_job;
-use model::job::put_job;
 use model::setting::Options;
 use model::setting::Setting;
 use model::setting::empty_setting;
@@ -16,15 +12,22 @@ use model::setting::put_quota;
 use model::setting::put_site;
 use model::sizes::GPUS;
 use model::sizes::JOBS;
-use model::sizes::SLICES;
+use rows::gpu::CARD;
+use rows::gpu::write_gpu;
+use rows::job::ROW;
+use rows::job::write_job;
 use trace::record::Card;
 use trace::record::Record;
 ghost use mathlib.Core.Path.{_≡_};
 ghost use Prim.Native.Nat.{_<_};
+ghost use lib.ListN.{set};
+ghost use Rattle.model.specs.Job.{newJob};
+ghost use Rattle.rows.specs.Gpu.{gpusOf};
+ghost use Rattle.rows.specs.Job.{jobsOf};
 ghost use Rattle.model.specs.Sizes as Sizes;
 ghost use Rattle.trace.specs.declared.answer.Answer.the-variants.{Accepted};
 ghost use Rattle.loader.specs.Fault.{faultOf};
-ghost use Rattle.loader.specs.Tables.{emptyTables, gpuOf, putNode, putLimit, putProfile, withSetting, putCard, putAsk, putOptions, putRecord};
+ghost use Rattle.loader.specs.Tables.{wholeTables, settingLoading, noLoading, gpuOf, putNode, putLimit, putProfile, cardLoading, askLoading, optionsLoading, putRecord};
 
 // What is loaded so far; told says whether the trace has given options.
 pub struct Tables {
@@ -34,32 +37,18 @@ pub struct Tables {
     pub told: bool,
 }
 
-pub fn empty_tables() -> Tables
-    ensures { λ r. ⌜ r ≡ emptyTables ⌝ }
-{
-    Tables {
-        setting: empty_setting(),
-        gpus: [no_gpu(); GPUS],
-        jobs: [no_job(); JOBS],
-        told: false,
-    }
+// The same without the tables of GPUs and jobs, which are lent.
+pub struct Loading {
+    pub setting: Setting,
+    pub told: bool,
 }
 
-// A GPU as loaded, on the latest node: nobody's and uncut.
-fn gpu_of(card: Card, nodes: u8) -> Gpu
-    requires { ⌜ 0 < nodes ⌝ }
-    ensures { λ r. ⌜ r ≡ gpuOf card nodes ⌝ }
+pub fn no_loading() -> Loading
+    ensures { λ r. ⌜ r ≡ noLoading ⌝ }
 {
-    Gpu {
-        node: nodes - 1,
-        kind: card.kind,
-        memory: card.memory,
-        group: card.group,
-        mig: card.mig,
-        owner: 0,
-        profile: 0,
-        slices: 0,
-        owners: [0; SLICES],
+    Loading {
+        setting: empty_setting(),
+        told: false,
     }
 }
 
@@ -96,45 +85,49 @@ fn put_profile(setting: Setting, profile: u8, most: u8) -> Setting
     s
 }
 
-fn with_setting(t: Tables, setting: Setting) -> Tables
-    ensures { λ r. ⌜ r ≡ withSetting t setting ⌝ }
+fn with_setting(t: Loading, setting: Setting) -> Loading
+    ensures { λ r. ⌜ r ≡ settingLoading t setting ⌝ }
 {
     let mut u = t;
     u.setting = setting;
     u
 }
 
-fn put_card(t: Tables, card: Card) -> Tables
+// A GPU as loaded, on the latest node, after those before it.
+fn put_card(gpus: &mut [[u64; CARD]; GPUS], t: Loading, card: Card) -> Loading
     requires { ⌜ (0 < t .setting .nodes) × (t .setting .gpus < Sizes.gpus) ⌝ }
-    ensures { λ r. ⌜ r ≡ putCard t card ⌝ }
+    ensures { λ r. ⌜ (r ≡ cardLoading t) × (gpusOf (now (gpus .exit)) ≡ set (gpusOf (now (gpus .entry))) (t .setting .gpus) (gpuOf card (t .setting .nodes))) ⌝ }
 {
     let mut s = t.setting;
-    let gpus = t.gpus;
-    let g = gpu_of(card, s.nodes);
-    let after = put_gpu(gpus, s.gpus as usize, g);
+    write_gpu(
+        gpus,
+        s.gpus as usize,
+        s.nodes - 1,
+        card.kind,
+        card.memory,
+        card.group,
+        card.mig,
+    );
     s.gpus = s.gpus + 1;
     let mut u = t;
     u.setting = s;
-    u.gpus = after;
     u
 }
 
-fn put_ask(t: Tables, ask: Ask) -> Tables
+fn put_ask(jobs: &mut [[u64; ROW]; JOBS], t: Loading, ask: Ask) -> Loading
     requires { ⌜ t .setting .jobs < Sizes.jobs ⌝ }
-    ensures { λ r. ⌜ r ≡ putAsk t ask ⌝ }
+    ensures { λ r. ⌜ (r ≡ askLoading t) × (jobsOf (now (jobs .exit)) ≡ set (jobsOf (now (jobs .entry))) (t .setting .jobs) (newJob ask)) ⌝ }
 {
     let mut s = t.setting;
-    let jobs = t.jobs;
-    let after = put_job(jobs, s.jobs as usize, new_job(ask));
+    write_job(jobs, s.jobs as usize, new_job(ask));
     s.jobs = s.jobs + 1;
     let mut u = t;
     u.setting = s;
-    u.jobs = after;
     u
 }
 
-fn put_options(t: Tables, options: Options) -> Tables
-    ensures { λ r. ⌜ r ≡ putOptions t options ⌝ }
+fn put_options(t: Loading, options: Options) -> Loading
+    ensures { λ r. ⌜ r ≡ optionsLoading t options ⌝ }
 {
     let mut s = t.setting;
     s.options = options;
@@ -145,18 +138,24 @@ fn put_options(t: Tables, options: Options) -> Tables
 }
 
 // A record without fault, put after those before it.
-pub fn put_record(t: Tables, r: Record, at: usize) -> Tables
+pub fn put_record(
+    gpus: &mut [[u64; CARD]; GPUS],
+    jobs: &mut [[u64; ROW]; JOBS],
+    t: Loading,
+    r: Record,
+    at: usize,
+) -> Loading
     requires { ⌜ faultOf (t .setting) (t .told) at r ≡ Accepted ⌝ }
-    ensures { λ u. ⌜ u ≡ putRecord t r ⌝ }
+    ensures { λ u. ⌜ wholeTables u (now (gpus .exit)) (now (jobs .exit)) ≡ putRecord (wholeTables t (now (gpus .entry)) (now (jobs .entry))) r ⌝ }
 {
     let setting = t.setting;
     match r {
         Record::End => t,
         Record::Node(site) => with_setting(t, put_node(setting, site)),
-        Record::Gpu(card) => put_card(t, card),
+        Record::Gpu(card) => put_card(gpus, t, card),
         Record::Quota(tenant, quota) => with_setting(t, put_limit(setting, tenant, quota)),
         Record::Profile(profile, most) => with_setting(t, put_profile(setting, profile, most)),
-        Record::Job(ask) => put_ask(t, ask),
+        Record::Job(ask) => put_ask(jobs, t, ask),
         Record::Options(options) => put_options(t, options),
     }
 }

@@ -7,6 +7,7 @@ ghost use lib.ListN.{getD, set};
 ghost use Rattle.model.specs.Gpu.{noGpu};
 
 // An owner is a job's number plus 1, or 0 for nobody; group and profile are stored likewise.
+#[repr(C)]
 pub struct Gpu {
     pub node: u8,
     pub kind: u8,

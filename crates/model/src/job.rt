@@ -17,6 +17,7 @@ pub enum JobState {
 
 // What the trace says of a job, which no step changes. A priority p stands as p + 2^31, so that its order is that of the numbers.
 // kind, site, tenant and profile are the number plus 1, or 0 for none.
+#[repr(C)]
 pub struct Ask {
     pub arrival: f64,
     pub duration: f64,

@@ -8,6 +8,7 @@ ghost use lib.ListN.{getD, set};
 ghost use Rattle.model.specs.Setting.{defaultOptions, emptySetting};
 
 // seconds: what a reconfiguration adds to a start; penalty: what a restart adds; multiplier: what a penalised job's remaining is multiplied by.
+#[repr(C)]
 pub struct Options {
     pub seconds: f64,
     pub penalty: f64,
@@ -17,6 +18,7 @@ pub struct Options {
 }
 
 // A site, as a quota, is stored plus 1, or 0 for none; a profile's most is 0 where it is not loaded. nodes, gpus and jobs count those loaded.
+#[repr(C)]
 pub struct Setting {
     pub sites: [u8; NODES],
     pub nodes: u8,

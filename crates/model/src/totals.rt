@@ -3,6 +3,7 @@
 ghost use mathlib.Core.Path.{_≡_};
 ghost use Rattle.model.specs.Totals.{noTotals};
 
+#[repr(C)]
 pub struct Totals {
     pub evictions: u64,
     pub cuts: u64,

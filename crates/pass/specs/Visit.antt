@@ -19,17 +19,27 @@ use Rattle.model.specs.declared.setting.Setting.{Setting}
 use Rattle.life.specs.Life as Life
 use Rattle.resource.specs.Allocate.{allocated}
 use Rattle.resource.specs.declared.allocate.Allocation.{Allocation}
-use Rattle.preemptive.specs.Prefix.{preempted}
+use Rattle.preemptive.specs.Prefix.{evictedAll, made, preempted}
 use Rattle.preemptive.specs.declared.prefix.Preempted.{Preempted}
 use Rattle.starts.specs.Begin.{noPlacing}
 use Rattle.line.specs.Line.{joinedAll}
 use Rattle.line.specs.Keep.{waits}
 use Rattle.line.specs.declared.join.Line.{Line}
+use Rattle.rows.specs.Job.{jobsOf}
 use Rattle.pass.specs.declared.visit.Pass.{Pass}
+use Rattle.pass.specs.declared.visit.Turn.{Turn}
 
 -- a pass that has placed nobody yet
 unfoldable pub newPass : List Gpu → List Job → Line → Pass
 newPass gpus jobs line = record { gpus = gpus; jobs = jobs; line = line; placed = replicate Sizes.jobs noPlacing; count = 0 }
+
+-- the same beside the table of jobs
+unfoldable pub newTurn : List Gpu → Line → Turn
+newTurn gpus line = record { gpus = gpus; line = line; placed = replicate Sizes.jobs noPlacing; count = 0 }
+
+-- the pass, with the table of jobs that was lent
+abbrev pub wholePass : Turn → List (List ℕ) → Pass
+wholePass t jobs = record { gpus = t .gpus; jobs = jobsOf jobs; line = t .line; placed = t .placed; count = t .count }
 
 -- What the job gets as things stand.
 abbrev pub allocation : Setting → Pass → ℕ → Job → Allocation
@@ -105,16 +115,32 @@ module _ (s : Setting) (p : Pass) (id : ℕ) (j : Job) (got : Allocation) (is : 
   unfolding considered
   considered-mig clock f z = let u : allocation s p id j .placed ≡ false = rw (← is) f in rw (u, ne-eqb (j .ask .profile) 0 z)
 
+-- where nobody leaves the jobs stay as they are
+nobody-left : (s : Setting) (clock : Float) (gpus : List Gpu) (jobs : List Job) (j : Job) → preempted s clock gpus jobs j .count ≡ 0 → preempted s clock gpus jobs j .jobs ≡ jobs
+unfolding preempted made evictedAll
+nobody-left s clock gpus jobs j z = rw z
+
 module _ (s : Setting) (clock : Float) (p : Pass) (id : ℕ) (j : Job) (got : Preempted) (is : got ≡ preempted s clock (p .gpus) (p .jobs) j) where
   pub preempting-none : got .count ≡ 0 → p ≡ preempting s clock p id j
   unfolding preempting
   preempting-none z = let u : preempted s clock (p .gpus) (p .jobs) j .count ≡ 0 = rw (← is) z in rw (eq-eqb (preempted s clock (p .gpus) (p .jobs) j .count) 0 u)
+
+  pub preempting-nobody : (r : Pass) → got .count ≡ 0 → r ≡ record { gpus = p .gpus; jobs = got .jobs; line = p .line; placed = p .placed; count = p .count } → r ≡ preempting s clock p id j
+  preempting-nobody r z e =
+      let u : preempted s clock (p .gpus) (p .jobs) j .count ≡ 0 = rw (← is) z in
+      let k : got .jobs ≡ p .jobs = rw is (nobody-left s clock (p .gpus) (p .jobs) j u) in
+      e ∙ rw k (preempting-none z)
 
   pub preempting-some : (r way : Pass) → (got .count ≡ 0 → ⊥) → way ≡ madeWay clock p id got → r ≡ settled s way id j → r ≡ preempting s clock p id j
   unfolding preempting
   preempting-some r way z w e =
       let u : preempted s clock (p .gpus) (p .jobs) j .count ≡ 0 → ⊥ = rw (← is) z in
       e ∙ rw (ne-eqb (preempted s clock (p .gpus) (p .jobs) j .count) 0 u, w, is)
+
+  -- the jobs are those that preemption gave back, whatever they were
+  pub preempting-way : (r way : Pass) (others : List Job) → (got .count ≡ 0 → ⊥) → way ≡ madeWay clock (record { gpus = p .gpus; jobs = others; line = p .line; placed = p .placed; count = p .count }) id got → r ≡ settled s way id j → r ≡ preempting s clock p id j
+  unfolding madeWay
+  preempting-way r way others z w e = preempting-some r way z w e
 
 module _ (s : Setting) (clock : Float) (p : Pass) (id : ℕ) (j : Job) (is : j ≡ getD (p .jobs) id noJob) where
   pub visited-other : waits j ≡ false → p ≡ visited s clock p id

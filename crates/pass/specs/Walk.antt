@@ -1,4 +1,5 @@
 -- A pass: the queue is stably sorted, then each job that is in it now is looked at once.
+use mathlib.Core.Path.{_≡_, _∙_}
 use mathlib.Core.List.{List}
 use Prim.Native.Nat.{ℕ, min}
 use lib.ListN.{getD}
@@ -26,3 +27,8 @@ unfoldable pub walked : Setting → Float → Pass → Pass
 walked s clock p =
     let q = sorted p in
     through (visitAt s clock (q .line .queue)) q (min (q .line .waiting) Sizes.jobs) 0
+
+-- the queue sorted, then the walk over it
+pub walked-is : (s : Setting) (clock : Float) (p q r : Pass) → q ≡ sorted p → r ≡ through (visitAt s clock (q .line .queue)) q (min (q .line .waiting) 128) 0 → r ≡ walked s clock p
+unfolding walked
+walked-is s clock p q r e f = f ∙ rw e

@@ -6,23 +6,25 @@ use line::join::join_all;
 use line::keep::is_waiting;
 use model::gpu::Gpu;
 use model::job::Job;
-use model::job::job_at;
-use model::job::put_job;
 use model::setting::Setting;
 use model::sizes::GPUS;
 use model::sizes::JOBS;
-use preemptive::prefix::Preempted;
+use preemptive::prefix::Way;
 use preemptive::prefix::preempt;
 use resource::allocate::Allocation;
 use resource::allocate::allocate;
+use rows::job::ROW;
+use rows::job::read_job;
+use rows::job::write_job;
 use small::onward;
 use small::plus_one;
 use small::wide_id;
 use starts::begin::Placing;
 use starts::begin::no_placing;
 ghost use mathlib.Core.Path.{_≡_};
+ghost use Rattle.preemptive.specs.Prefix.{wholePreempted};
 ghost use lib.ListN.{set};
-ghost use Rattle.pass.specs.Visit.{newPass, allocation, placedAs, settled, madeWay, preempting, considered, visited};
+ghost use Rattle.pass.specs.Visit.{newTurn, wholePass, allocation, placedAs, settled, madeWay, preempting, considered, visited};
 
 // placed holds the jobs placed so far, count of them, in the order of placing.
 pub struct Pass {
@@ -33,12 +35,19 @@ pub struct Pass {
     pub count: usize,
 }
 
-pub fn new_pass(gpus: [Gpu; GPUS], jobs: [Job; JOBS], line: Line) -> Pass
-    ensures { λ r. ⌜ r ≡ newPass gpus jobs line ⌝ }
+// The same without the table of jobs, which is lent.
+pub struct Turn {
+    pub gpus: [Gpu; GPUS],
+    pub line: Line,
+    pub placed: [Placing; JOBS],
+    pub count: usize,
+}
+
+pub fn new_turn(gpus: [Gpu; GPUS], line: Line) -> Turn
+    ensures { λ r. ⌜ r ≡ newTurn gpus line ⌝ }
 {
-    Pass {
+    Turn {
         gpus: gpus,
-        jobs: jobs,
         line: line,
         placed: [no_placing(); JOBS],
         count: 0,
@@ -56,105 +65,126 @@ fn put_placing(placed: [Placing; JOBS], i: usize, p: Placing) -> [Placing; JOBS]
 }
 
 // The job has what was allocated to it, and starts when the pass is over.
-fn place_as(pass: Pass, id: u16, j: Job, got: Allocation) -> Pass
-    ensures { λ r. ⌜ r ≡ placedAs pass id j got ⌝ }
+fn place_as(jobs: &mut [[u64; ROW]; JOBS], turn: Turn, id: u16, j: Job, got: Allocation) -> Turn
+    ensures { λ r. ⌜ wholePass r (now (jobs .exit)) ≡ placedAs (wholePass turn (now (jobs .entry))) id j got ⌝ }
 {
     let gpus = got.gpus;
-    let jobs = pass.jobs;
-    let line = pass.line;
-    let placed = pass.placed;
+    let line = turn.line;
+    let placed = turn.placed;
     let p = Placing {
         job: id,
         cut: got.cut,
         penalised: got.penalised,
     };
-    Pass {
+    write_job(jobs, wide_id(id), life::place(j));
+    Turn {
         gpus: gpus,
-        jobs: put_job(jobs, wide_id(id), life::place(j)),
         line: line,
-        placed: put_placing(placed, pass.count, p),
-        count: onward(pass.count, JOBS),
+        placed: put_placing(placed, turn.count, p),
+        count: onward(turn.count, JOBS),
     }
 }
 
-fn allocation(setting: Setting, pass: Pass, id: u16, j: Job) -> Allocation
-    ensures { λ r. ⌜ r ≡ allocation setting pass id j ⌝ }
+fn allocation(
+    setting: Setting,
+    jobs: &[[u64; ROW]; JOBS],
+    turn: Turn,
+    id: u16,
+    j: Job,
+) -> Allocation
+    ensures { λ r. ⌜ r ≡ allocation setting (wholePass turn (now (jobs .entry))) id j ⌝ }
 {
-    let gpus = pass.gpus;
-    let jobs = pass.jobs;
+    let gpus = turn.gpus;
     allocate(setting, gpus, jobs, j, plus_one(id))
 }
 
 // After the evictions for the job it is placed if it can be.
-fn settle(setting: Setting, pass: Pass, id: u16, j: Job) -> Pass
-    ensures { λ r. ⌜ r ≡ settled setting pass id j ⌝ }
+fn settle(setting: Setting, jobs: &mut [[u64; ROW]; JOBS], turn: Turn, id: u16, j: Job) -> Turn
+    ensures { λ r. ⌜ wholePass r (now (jobs .exit)) ≡ settled setting (wholePass turn (now (jobs .entry))) id j ⌝ }
 {
-    let got = allocation(setting, pass, id, j);
+    let got = allocation(setting, jobs, turn, id, j);
     if got.placed {
-        return place_as(pass, id, j, got);
+        return place_as(jobs, turn, id, j, got);
     }
-    pass
+    turn
 }
 
 // The pass when the victims have left.
-fn make_way(clock: f64, pass: Pass, id: u16, got: Preempted) -> Pass
-    ensures { λ r. ⌜ r ≡ madeWay clock pass id got ⌝ }
+fn make_way(clock: f64, jobs: &[[u64; ROW]; JOBS], turn: Turn, id: u16, got: Way) -> Turn
+    ensures { λ r. ⌜ wholePass r (now (jobs .entry)) ≡ madeWay clock (wholePass turn (now (jobs .entry))) id (wholePreempted got (now (jobs .entry))) ⌝ }
 {
     let gpus = got.gpus;
-    let jobs = got.jobs;
-    let line = pass.line;
-    let placed = pass.placed;
+    let line = turn.line;
+    let placed = turn.placed;
     let victims = got.victims;
-    Pass {
+    Turn {
         gpus: gpus,
-        jobs: jobs,
         line: join_all(line, clock, jobs, victims, got.count, id),
         placed: placed,
-        count: pass.count,
+        count: turn.count,
     }
 }
 
 // Where no prefix of the candidates helps all stays as it was.
-fn preempt_for(setting: Setting, clock: f64, pass: Pass, id: u16, j: Job) -> Pass
-    ensures { λ r. ⌜ r ≡ preempting setting clock pass id j ⌝ }
+fn preempt_for(
+    setting: Setting,
+    clock: f64,
+    jobs: &mut [[u64; ROW]; JOBS],
+    turn: Turn,
+    id: u16,
+    j: Job,
+) -> Turn
+    ensures { λ r. ⌜ wholePass r (now (jobs .exit)) ≡ preempting setting clock (wholePass turn (now (jobs .entry))) id j ⌝ }
 {
-    let gpus = pass.gpus;
-    let jobs = pass.jobs;
+    let gpus = turn.gpus;
     let got = preempt(setting, clock, gpus, jobs, j);
     if got.count == 0 {
-        return pass;
+        return turn;
     }
-    settle(setting, make_way(clock, pass, id, got), id, j)
+    let way = make_way(clock, jobs, turn, id, got);
+    settle(setting, jobs, way, id, j)
 }
 
 // A MIG job does not preempt.
-fn consider(setting: Setting, clock: f64, pass: Pass, id: u16, j: Job) -> Pass
-    ensures { λ r. ⌜ r ≡ considered setting clock pass id j ⌝ }
+fn consider(
+    setting: Setting,
+    clock: f64,
+    jobs: &mut [[u64; ROW]; JOBS],
+    turn: Turn,
+    id: u16,
+    j: Job,
+) -> Turn
+    ensures { λ r. ⌜ wholePass r (now (jobs .exit)) ≡ considered setting clock (wholePass turn (now (jobs .entry))) id j ⌝ }
 {
-    let got = allocation(setting, pass, id, j);
+    let got = allocation(setting, jobs, turn, id, j);
     if got.placed {
-        return place_as(pass, id, j, got);
+        return place_as(jobs, turn, id, j, got);
     }
     let ask = j.ask;
     if ask.profile == 0 {
-        return preempt_for(setting, clock, pass, id, j);
+        return preempt_for(setting, clock, jobs, turn, id, j);
     }
-    pass
+    turn
 }
 
 // Victims of this pass are not looked at.
-pub fn visit(setting: Setting, clock: f64, pass: Pass, id: u16) -> Pass
-    ensures { λ r. ⌜ r ≡ visited setting clock pass id ⌝ }
+pub fn visit(
+    setting: Setting,
+    clock: f64,
+    jobs: &mut [[u64; ROW]; JOBS],
+    turn: Turn,
+    id: u16,
+) -> Turn
+    ensures { λ r. ⌜ wholePass r (now (jobs .exit)) ≡ visited setting clock (wholePass turn (now (jobs .entry))) id ⌝ }
 {
-    let jobs = pass.jobs;
-    let line = pass.line;
+    let line = turn.line;
     let victims = line.victims;
-    let j = job_at(jobs, wide_id(id));
+    let j = read_job(jobs, wide_id(id));
     if is_waiting(j) {
         if is_among(victims, line.evicted, id) {
-            return pass;
+            return turn;
         }
-        return consider(setting, clock, pass, id, j);
+        return consider(setting, clock, jobs, turn, id, j);
     }
-    pass
+    turn
 }

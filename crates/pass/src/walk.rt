@@ -1,13 +1,16 @@
 // A pass over the waiting line: the queue is sorted, then each job of it is looked at once.
 
-use crate::visit::Pass;
+use crate::stay::stays;
+use crate::visit::Turn;
 use crate::visit::visit;
 use cluster::queue::sort_queue;
 use line::join::Line;
 use model::setting::Setting;
 use model::sizes::JOBS;
+use rows::job::ROW;
 use small::lesser;
 ghost use mathlib.Core.Path.{_≡_};
+ghost use Rattle.pass.specs.Visit.{wholePass};
 ghost use Prim.Native.Nat.{min};
 ghost use Rattle.laws.specs.Loop.{through};
 ghost use Rattle.pass.specs.Walk.{withQueue, sorted, visitAt, walked};
@@ -21,37 +24,42 @@ fn with_queue(line: Line, queue: [u16; JOBS]) -> Line
 }
 
 // The pass with its queue sorted.
-fn sort_line(pass: Pass) -> Pass
-    ensures { λ r. ⌜ r ≡ sorted pass ⌝ }
+fn sort_line(jobs: &[[u64; ROW]; JOBS], turn: Turn) -> Turn
+    ensures { λ r. ⌜ wholePass r (now (jobs .entry)) ≡ sorted (wholePass turn (now (jobs .entry))) ⌝ }
 {
-    let jobs = pass.jobs;
-    let line = pass.line;
+    let line = turn.line;
     let queue = line.queue;
     let ordered = sort_queue(jobs, queue, line.waiting);
-    let mut after = pass;
+    let mut after = turn;
     after.line = with_queue(line, ordered);
     after
 }
 
 // The jobs of the queue as it is now, one after the other; what joins it meanwhile is not looked at.
-fn visit_all(setting: Setting, clock: f64, pass: Pass) -> Pass
-    ensures { λ r. ⌜ r ≡ through (visitAt setting clock (pass .line .queue)) pass (min (pass .line .waiting) 128) 0 ⌝ }
+fn visit_all(setting: Setting, clock: f64, jobs: &mut [[u64; ROW]; JOBS], turn: Turn) -> Turn
+    ensures { λ r. ⌜ wholePass r (now (jobs .exit)) ≡ through (visitAt setting clock (turn .line .queue)) (wholePass turn (now (jobs .entry))) (min (turn .line .waiting) 128) 0 ⌝ }
 {
-    let line = pass.line;
+    let line = turn.line;
     let queue = line.queue;
     let m = lesser(line.waiting, JOBS);
-    let mut turn = pass;
+    let mut work = turn;
     let mut i: usize = 0;
     while i < m {
-        let after = visit(setting, clock, turn, queue[i]);
-        turn = after;
-        i = i + 1;
+        let gpus = work.gpus;
+        if stays(setting, gpus, jobs, queue[i]) {
+            i = i + 1;
+        } else {
+            let after = visit(setting, clock, jobs, work, queue[i]);
+            work = after;
+            i = i + 1;
+        }
     }
-    turn
+    work
 }
 
-pub fn walk(setting: Setting, clock: f64, pass: Pass) -> Pass
-    ensures { λ r. ⌜ r ≡ walked setting clock pass ⌝ }
+pub fn walk(setting: Setting, clock: f64, jobs: &mut [[u64; ROW]; JOBS], turn: Turn) -> Turn
+    ensures { λ r. ⌜ wholePass r (now (jobs .exit)) ≡ walked setting clock (wholePass turn (now (jobs .entry))) ⌝ }
 {
-    visit_all(setting, clock, sort_line(pass))
+    let ordered = sort_line(jobs, turn);
+    visit_all(setting, clock, jobs, ordered)
 }

@@ -2,3 +2,4 @@
 pub mod Question
 pub mod Step
 pub mod StepLaws
+pub mod Lent

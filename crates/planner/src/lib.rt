@@ -1,17 +1,26 @@
 // The public face of the planner.
 
-use engine::advance::advance;
-use engine::advance::has_event;
+pub mod lent;
+
+use lent::plan_of;
+use lent::rest_of;
+use lent::step_lent;
 use loader::load::Loaded;
-use log::words::write_words;
 use model::job::job_at;
 use model::plan::Plan;
+use model::sizes::EVENTS;
+use model::sizes::JOBS;
 use resource::cause::is_placeable;
+use rows::event::ENTRY;
+use rows::event::write_events;
+use rows::job::ROW;
+use rows::job::write_jobs;
 ghost use mathlib.Core.Path.{_≡_};
 ghost use lib.ListN.{length};
 ghost use Rattle.loader.specs.Load as Load;
 ghost use Rattle.planner.specs.Question.{question};
 ghost use Rattle.planner.specs.Step.{stepped, wordsAfter};
+ghost use Rattle.planner.specs.Lent.{isTaken};
 
 // Words that the decisions of one step may take.
 pub const WORDS: usize = 516;
@@ -52,7 +61,9 @@ pub fn can_place(plan: Plan, job: usize) -> Placeable
     let gpus = plan.gpus;
     let jobs = plan.jobs;
     if job < setting.jobs as usize {
-        if is_placeable(setting, gpus, jobs, job_at(jobs, job)) {
+        let mut rows = [[0u64; ROW]; JOBS];
+        write_jobs(&mut rows, jobs);
+        if is_placeable(setting, gpus, &rows, job_at(jobs, job)) {
             return Placeable::Yes;
         }
         return Placeable::No;
@@ -60,36 +71,38 @@ pub fn can_place(plan: Plan, job: usize) -> Placeable
     Placeable::NoSuchJob
 }
 
+fn is_taken(answer: Taken) -> bool
+    ensures { λ r. ⌜ r ≡ isTaken answer ⌝ }
+{
+    match answer {
+        Taken::Decisions(_) => true,
+        Taken::ShortBuffer => false,
+        Taken::NoEvent => false,
+        Taken::NotPermitted => false,
+    }
+}
+
 // Takes one step: its decisions are the first words of the buffer, four each. Refused, it leaves plan and buffer as they were.
 pub fn step(plan: Plan, decisions: &mut [u64]) -> Stepped
     ensures { λ r. ⌜ r ≡ stepped plan (length (now (decisions .entry))) ⌝ }
     ensures { λ _. ⌜ now (decisions .exit) ≡ wordsAfter plan (now (decisions .entry)) ⌝ }
 {
-    if decisions.len() < WORDS {
+    let mut jobs = [[0u64; ROW]; JOBS];
+    let mut room = [[0u64; ENTRY]; EVENTS];
+    let table = plan.jobs;
+    let events = plan.events;
+    write_jobs(&mut jobs, table);
+    write_events(&mut room, events);
+    let stepped = step_lent(&mut jobs, &mut room, rest_of(plan), decisions);
+    let answer = stepped.answer;
+    if is_taken(answer) {
         return Stepped {
-            answer: Taken::ShortBuffer,
-            plan: plan,
-        };
-    }
-    if has_event(plan) {
-        let m = advance(plan);
-        let after = m.plan;
-        if m.ok {
-            let log = m.log;
-            let table = log.table;
-            write_words(decisions, table, log.count);
-            return Stepped {
-                answer: Taken::Decisions(log.count),
-                plan: after,
-            };
-        }
-        return Stepped {
-            answer: Taken::NotPermitted,
-            plan: plan,
+            answer: answer,
+            plan: plan_of(&jobs, &room, stepped.rest),
         };
     }
     Stepped {
-        answer: Taken::NoEvent,
+        answer: answer,
         plan: plan,
     }
 }

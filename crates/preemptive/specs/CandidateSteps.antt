@@ -1,9 +1,9 @@
 -- The candidates as the code finds them and sorts them.
-use mathlib.Core.Path.{_≡_, refl, sym, fun-ext, _∙_}
+use mathlib.Core.Path.{_≡_, refl, fun-ext, _∙_}
 use mathlib.Core.Logic.{⊎-elim}
 use mathlib.Core.Bool.{Bool, false, _&&_, _||_}
 use mathlib.Core.List.{List, map}
-use Prim.Native.Nat.{ℕ, _-_, _<_}
+use Prim.Native.Nat.{ℕ, _-_}
 use native.Mathlib.Omega.{arith}
 use lib.Dec.{leb, ltb, eqb}
 use lib.ListN.{length, getD, replicate, List·getD-map}
@@ -12,7 +12,6 @@ use borrow.Author.Tests.{lt-ltb, le-ltb, eq-eqb, ne-eqb, le-leb, lt-leb}
 use Rattle.laws.specs.Tests.{le-or-lt, eq-or-ne}
 use Rattle.laws.specs.Lists.{pad, all-getD, all-replicate}
 use Rattle.laws.specs.Sort.{sort, sort-length}
-use Rattle.laws.specs.Tables.{getD-any}
 use Rattle.model.specs.Job.{noJob, newJob}
 use Rattle.model.specs.declared.job.Ask.{Ask}
 use Rattle.model.specs.declared.job.Job.{Job}
@@ -21,11 +20,7 @@ use Rattle.cluster.specs.Order.{byNumbers, sortedFront}
 use Rattle.cluster.specs.Queue.{priorityOf}
 use Rattle.eligible.specs.Chosen.{chosen}
 use Rattle.eligible.specs.declared.chosen.Chosen.{Chosen}
-use Rattle.preemptive.specs.Candidate.{candidate, candidateAt, candidatesByNumber, lower, candidates}
-
--- the test of the code is that of the definition
-pub candidate-is : (aware : Bool) (jobs : List Job) (ask : Ask) (i : ℕ) (d : Job) (r : Bool) → i < length jobs → r ≡ candidate aware ask (getD jobs i d) → candidateAt aware jobs ask i ≡ r
-candidate-is aware jobs ask i d r h e = rw (getD-any jobs i noJob d h) (sym e)
+use Rattle.preemptive.specs.Candidate.{candidatesByNumber, lower, candidates}
 
 -- ---- the order by numbers, all second numbers 0, is the order by priority
 

@@ -9,9 +9,12 @@ use model::job::Ask;
 use model::job::Job;
 use model::setting::Setting;
 use model::sizes::JOBS;
+use rows::job::ROW;
+use rows::job::read_job;
 use small::both;
 use small::lesser;
 ghost use mathlib.Core.Path.{_≡_};
+ghost use Rattle.rows.specs.Job.{jobsOf};
 ghost use lib.ListN.{replicate};
 ghost use Rattle.eligible.specs.Chosen.{chosen};
 ghost use Rattle.preemptive.specs.Candidate.{openTo, candidate, candidatesByNumber, candidates};
@@ -30,7 +33,7 @@ fn is_open_to(aware: bool, tenant: u8, other: u8) -> bool
 }
 
 // Whether v may have to make way for a job that asks so.
-fn is_candidate(aware: bool, ask: Ask, v: Job) -> bool
+pub fn is_candidate(aware: bool, ask: Ask, v: Job) -> bool
     ensures { λ r. ⌜ r ≡ candidate aware ask v ⌝ }
 {
     let other = v.ask;
@@ -39,15 +42,15 @@ fn is_candidate(aware: bool, ask: Ask, v: Job) -> bool
     both(lower, may)
 }
 
-fn candidates_by_number(aware: bool, jobs: [Job; JOBS], n: usize, ask: Ask) -> Chosen
-    ensures { λ r. ⌜ r ≡ chosen (candidatesByNumber aware jobs n ask) ⌝ }
+fn candidates_by_number(aware: bool, jobs: &[[u64; ROW]; JOBS], n: usize, ask: Ask) -> Chosen
+    ensures { λ r. ⌜ r ≡ chosen (candidatesByNumber aware (jobsOf (now (jobs .entry))) n ask) ⌝ }
 {
     let m = lesser(n, JOBS);
     let mut ids = no_ids();
     let mut k: usize = 0;
     let mut i: usize = 0;
     while i < m {
-        if is_candidate(aware, ask, jobs[i]) {
+        if is_candidate(aware, ask, read_job(jobs, i)) {
             ids[k] = i as u16;
             k = k + 1;
         }
@@ -63,13 +66,15 @@ fn no_numbers() -> [u64; JOBS]
 }
 
 // By priority, then by number: the sort keeps the order of equals.
-pub fn candidates(setting: Setting, jobs: [Job; JOBS], ask: Ask) -> Chosen
-    ensures { λ r. ⌜ r ≡ chosen (candidates setting jobs ask) ⌝ }
+pub fn candidates(setting: Setting, jobs: &[[u64; ROW]; JOBS], ask: Ask) -> Chosen
+    ensures { λ r. ⌜ r ≡ chosen (candidates setting (jobsOf (now (jobs .entry))) ask) ⌝ }
 {
     let options = setting.options;
     let found = candidates_by_number(options.aware, jobs, setting.jobs as usize, ask);
     let ids = found.ids;
-    let sorted = sort_by(ids, found.count, priorities(jobs), no_numbers());
+    let first = priorities(jobs);
+    let second = no_numbers();
+    let sorted = sort_by(ids, found.count, &first, &second);
     Chosen {
         ids: sorted,
         count: found.count,

@@ -5,19 +5,21 @@ use cluster::gpus::free_all;
 use life::evict;
 use model::gpu::Gpu;
 use model::job::Job;
-use model::job::job_at;
-use model::job::put_job;
 use model::setting::Setting;
 use model::sizes::GPUS;
 use model::sizes::JOBS;
 use resource::cause::is_placeable;
+use rows::job::ROW;
+use rows::job::read_job;
+use rows::job::write_job;
 use small::lesser;
 use small::plus_one;
 use small::wide_id;
 ghost use mathlib.Core.Path.{_≡_};
+ghost use Rattle.rows.specs.Job.{jobsOf};
 ghost use mathlib.Core.List.{_∷_, []};
 ghost use lib.ListN.{take};
-ghost use Rattle.preemptive.specs.Prefix.{evictedAll, made, preempted};
+ghost use Rattle.preemptive.specs.Prefix.{evictedAll, wholePreempted, made, preempted};
 
 // The victims are the first count of those numbered; count is 0 where no prefix helps, and then the tables are as they were.
 pub struct Preempted {
@@ -27,11 +29,19 @@ pub struct Preempted {
     pub count: usize,
 }
 
-fn evict_one(jobs: [Job; JOBS], v: u16, clock: f64) -> [Job; JOBS]
-    ensures { λ r. ⌜ r ≡ evictedAll clock jobs (v ∷ []) ⌝ }
+// The same without the table of jobs, which is lent.
+pub struct Way {
+    pub gpus: [Gpu; GPUS],
+    pub victims: [u16; JOBS],
+    pub count: usize,
+}
+
+fn evict_one(jobs: &mut [[u64; ROW]; JOBS], v: u16, clock: f64)
+    ensures { λ _. ⌜ jobsOf (now (jobs .exit)) ≡ evictedAll clock (jobsOf (now (jobs .entry))) (v ∷ []) ⌝ }
 {
     let i = wide_id(v);
-    put_job(jobs, i, evict(job_at(jobs, i), clock))
+    let j = read_job(jobs, i);
+    write_job(jobs, i, evict(j, clock));
 }
 
 // One candidate after the other leaves, on copies of the tables, until the job is placeable.
@@ -39,36 +49,34 @@ fn make_room(
     setting: Setting,
     clock: f64,
     gpus: [Gpu; GPUS],
-    jobs: [Job; JOBS],
+    jobs: &mut [[u64; ROW]; JOBS],
     j: Job,
     ids: [u16; JOBS],
     count: usize,
-) -> Preempted
-    ensures { λ r. ⌜ r ≡ made setting clock gpus jobs j ids (take count ids) ⌝ }
+) -> Way
+    ensures { λ r. ⌜ wholePreempted r (now (jobs .exit)) ≡ made setting clock gpus (jobsOf (now (jobs .entry))) j ids (take count ids) ⌝ }
 {
     let n = lesser(count, JOBS);
     let mut free = gpus;
-    let mut left = jobs;
+    let mut left = *jobs;
     let mut k: usize = 0;
     while k < n {
         let v = ids[k];
         let freed = free_all(free, plus_one(v));
-        let after = evict_one(left, v, clock);
         free = freed;
-        left = after;
+        evict_one(&mut left, v, clock);
         k = k + 1;
-        if is_placeable(setting, free, left, j) {
-            return Preempted {
+        if is_placeable(setting, free, &left, j) {
+            *jobs = left;
+            return Way {
                 gpus: free,
-                jobs: left,
                 victims: ids,
                 count: k,
             };
         }
     }
-    Preempted {
+    Way {
         gpus: gpus,
-        jobs: jobs,
         victims: ids,
         count: 0,
     }
@@ -78,10 +86,10 @@ pub fn preempt(
     setting: Setting,
     clock: f64,
     gpus: [Gpu; GPUS],
-    jobs: [Job; JOBS],
+    jobs: &mut [[u64; ROW]; JOBS],
     j: Job,
-) -> Preempted
-    ensures { λ r. ⌜ r ≡ preempted setting clock gpus jobs j ⌝ }
+) -> Way
+    ensures { λ r. ⌜ wholePreempted r (now (jobs .exit)) ≡ preempted setting clock gpus (jobsOf (now (jobs .entry))) j ⌝ }
 {
     let ask = j.ask;
     let found = candidates(setting, jobs, ask);

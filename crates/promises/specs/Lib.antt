@@ -30,3 +30,4 @@ pub mod QueueRoom
 pub mod ToldFew
 pub mod OneHistory
 pub mod RunWords
+pub mod LentWords

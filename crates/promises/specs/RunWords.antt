@@ -23,7 +23,7 @@ use Rattle.planner.specs.Step.{wordsNeeded}
 use Rattle.planner.specs.StepLaws.{step-cases}
 use Rattle.gpu_planner.specs.Head.{headWords, refusedHead, endedHead}
 use Rattle.gpu_planner.specs.Run.{Run, behind, goesOn, runTo, turns}
-use Rattle.gpu_planner.specs.Ran.{runWords, ranAnswer, ranWords, Done, done-short, done-refused, done-run}
+use Rattle.gpu_planner.specs.Ran.{runWords, ranAnswer, ranWords, ran, Done, done-short, done-ran, ran-refused, ran-loaded}
 use Rattle.promises.specs.Between.{Between}
 use Rattle.promises.specs.Conditions.{Reached, begin, first, reached-between, few-steps}
 use Rattle.promises.specs.OneHistory.{Ends, Whole, step-on, one-whole}
@@ -166,7 +166,9 @@ module _ (trace ws : List ℕ) where
     -- A refused load: its number and place in front, no step, no decision; the others as they were.
     pub refused-words : accepted (load trace .answer) ≡ false → (ranAnswer trace ws ≡ numberOf (load trace .answer)) × (ranWords trace ws ≡ over (numberOf (load trace .answer) ∷ placeOf (load trace .answer) ∷ 0 ∷ 0 ∷ []) ws)
     refused-words e =
-        let d : Done trace ws _ _ = done-refused trace ws enough (load trace) refl (refusedHead (load trace .answer)) _ e refl refl in
+        let h = refusedHead (load trace .answer) in
+        let q : (h ≡ ran trace ws .head) × (ws ≡ ran trace ws .words) = ran-refused trace ws (load trace) refl e h refl in
+        let d : Done trace ws _ _ = done-ran trace ws enough h ws _ (q .0) (q .1) refl in
         (sym (d .0), sym (d .1))
 
     -- A loaded trace: its whole history, whatever the words were and however many there are.
@@ -174,7 +176,10 @@ module _ (trace ws : List ℕ) where
     planned e =
         let r : Leaves trace ws (runTo turns (first trace) 0 (length {A = Decision} []) (image ws [])) = run-leaves trace ws enough turns 0 (first trace) [] (begin (accepted-is (load trace .answer) e)) refl in
         let f : runTo turns (first trace) 0 0 ws ≡ record { head = endedHead (r .whole .answer) (r .whole .steps) (length (r .whole .told)); words = image ws (r .whole .told) } = ap (runTo turns (first trace) 0 0) (sym (image-none ws)) ∙ r .left in
-        let d : Done trace ws _ _ = done-run trace ws enough (load trace) refl (endedHead (r .whole .answer) (r .whole .steps) (length (r .whole .told))) _ (image ws (r .whole .told)) e (sym (ap (λ (x : Run). x .head) f)) (sym (ap (λ (x : Run). x .words) f)) refl in
+        let h = endedHead (r .whole .answer) (r .whole .steps) (length (r .whole .told)) in
+        let out = image ws (r .whole .told) in
+        let q : (h ≡ ran trace ws .head) × (out ≡ ran trace ws .words) = ran-loaded trace ws (load trace) refl e h out (sym (ap (λ (x : Run). x .head) f)) (sym (ap (λ (x : Run). x .words) f)) in
+        let d : Done trace ws _ _ = done-ran trace ws enough h out _ (q .0) (q .1) refl in
         record { whole = r .whole; answer = sym (d .0); words-are = sym (d .1) ∙ head-over (r .whole .answer) (r .whole .steps) ws (r .whole .told) (omega (arith, enough)) }
 
     -- With enough words the answer is never 10.

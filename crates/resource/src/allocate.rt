@@ -10,7 +10,9 @@ use model::setting::Setting;
 use model::setting::most_at;
 use model::sizes::GPUS;
 use model::sizes::JOBS;
+use rows::job::ROW;
 ghost use mathlib.Core.Path.{_≡_};
+ghost use Rattle.rows.specs.Job.{jobsOf};
 ghost use Prim.Native.Nat.{_-_};
 ghost use Rattle.resource.specs.Allocate.{wholeAllocated, slicesGot, allocated};
 
@@ -77,11 +79,11 @@ fn wide_less(profile: u8) -> usize
 pub fn allocate(
     setting: Setting,
     gpus: [Gpu; GPUS],
-    jobs: [Job; JOBS],
+    jobs: &[[u64; ROW]; JOBS],
     j: Job,
     owner: u16,
 ) -> Allocation
-    ensures { λ r. ⌜ r ≡ allocated setting gpus jobs j owner ⌝ }
+    ensures { λ r. ⌜ r ≡ allocated setting gpus (jobsOf (now (jobs .entry))) j owner ⌝ }
 {
     if is_placeable(setting, gpus, jobs, j) {
         let ask = j.ask;

@@ -10,7 +10,9 @@ use model::setting::Setting;
 use model::setting::most_at;
 use model::sizes::GPUS;
 use model::sizes::JOBS;
+use rows::job::ROW;
 ghost use mathlib.Core.Path.{_≡_};
+ghost use Rattle.rows.specs.Job.{jobsOf};
 ghost use Rattle.resource.specs.Cause.{wholeCause, slicesCause, resourceCause, firstCause, isNone, placeable};
 
 pub enum Cause {
@@ -51,7 +53,7 @@ fn slices_cause(gpus: [Gpu; GPUS], n: usize, profile: u8, most: u8, want: u8) ->
     Cause::NoIdle
 }
 
-fn resource_cause(setting: Setting, gpus: [Gpu; GPUS], j: Job) -> Cause
+pub fn resource_cause(setting: Setting, gpus: [Gpu; GPUS], j: Job) -> Cause
     ensures { λ r. ⌜ r ≡ resourceCause setting gpus j ⌝ }
 {
     let ask = j.ask;
@@ -65,8 +67,8 @@ fn resource_cause(setting: Setting, gpus: [Gpu; GPUS], j: Job) -> Cause
     slices_cause(gpus, n, ask.profile, most, ask.slices)
 }
 
-pub fn first_cause(setting: Setting, gpus: [Gpu; GPUS], jobs: [Job; JOBS], j: Job) -> Cause
-    ensures { λ r. ⌜ r ≡ firstCause setting gpus jobs j ⌝ }
+pub fn first_cause(setting: Setting, gpus: [Gpu; GPUS], jobs: &[[u64; ROW]; JOBS], j: Job) -> Cause
+    ensures { λ r. ⌜ r ≡ firstCause setting gpus (jobsOf (now (jobs .entry))) j ⌝ }
 {
     if within_quota(setting, jobs, j) {
         return resource_cause(setting, gpus, j);
@@ -89,8 +91,8 @@ pub fn is_none(c: Cause) -> bool
     }
 }
 
-pub fn is_placeable(setting: Setting, gpus: [Gpu; GPUS], jobs: [Job; JOBS], j: Job) -> bool
-    ensures { λ r. ⌜ r ≡ placeable setting gpus jobs j ⌝ }
+pub fn is_placeable(setting: Setting, gpus: [Gpu; GPUS], jobs: &[[u64; ROW]; JOBS], j: Job) -> bool
+    ensures { λ r. ⌜ r ≡ placeable setting gpus (jobsOf (now (jobs .entry))) j ⌝ }
 {
     is_none(first_cause(setting, gpus, jobs, j))
 }

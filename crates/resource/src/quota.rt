@@ -6,12 +6,14 @@ use model::job::Job;
 use model::setting::Setting;
 use model::setting::quota_at;
 use model::sizes::JOBS;
+use rows::job::ROW;
 ghost use mathlib.Core.Path.{_≡_};
+ghost use Rattle.rows.specs.Job.{jobsOf};
 ghost use Rattle.resource.specs.Quota.{withinQuota};
 
 // No tenant or no quota entry is unrestricted. A quota is kept plus 1.
-pub fn within_quota(setting: Setting, jobs: [Job; JOBS], j: Job) -> bool
-    ensures { λ r. ⌜ r ≡ withinQuota setting jobs j ⌝ }
+pub fn within_quota(setting: Setting, jobs: &[[u64; ROW]; JOBS], j: Job) -> bool
+    ensures { λ r. ⌜ r ≡ withinQuota setting (jobsOf (now (jobs .entry))) j ⌝ }
 {
     let ask = j.ask;
     if ask.tenant == 0 {

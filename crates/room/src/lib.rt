@@ -5,10 +5,13 @@ pub mod ahead;
 use model::event::Event;
 use model::event::EventKind;
 use model::event::empty_event;
-use model::event::put_event;
 use model::number::bits_of;
 use model::sizes::EVENTS;
+use rows::event::ENTRY;
+use rows::event::read_event;
+use rows::event::write_event;
 ghost use mathlib.Core.Path.{_≡_};
+ghost use Rattle.rows.specs.Event.{eventsOf};
 ghost use Rattle.laws.specs.Choice.{pick};
 ghost use Rattle.room.specs.Room.{used, earlier, ahead, least, firstFree, added, taken};
 
@@ -63,25 +66,25 @@ fn better(a: Event, b: Event, i: usize, best: usize) -> usize
 }
 
 // The entry of the least event; some empty entry where there is no event.
-pub fn least_event(events: [Event; EVENTS]) -> usize
-    ensures { λ r. ⌜ r ≡ least events ⌝ }
+pub fn least_event(room: &[[u64; ENTRY]; EVENTS]) -> usize
+    ensures { λ r. ⌜ r ≡ least (eventsOf (now (room .entry))) ⌝ }
 {
     let mut best: usize = 0;
     let mut i: usize = 1;
     while i < EVENTS {
-        best = better(events[i], events[best], i, best);
+        best = better(read_event(room, i), read_event(room, best), i, best);
         i = i + 1;
     }
     best
 }
 
 // The first entry that holds no event, or 1,152.
-fn first_free(events: [Event; EVENTS]) -> usize
-    ensures { λ r. ⌜ r ≡ firstFree events ⌝ }
+fn first_free(room: &[[u64; ENTRY]; EVENTS]) -> usize
+    ensures { λ r. ⌜ r ≡ firstFree (eventsOf (now (room .entry))) ⌝ }
 {
     let mut i: usize = 0;
     while i < EVENTS {
-        if is_used(events[i]) {
+        if is_used(read_event(room, i)) {
             i = i + 1;
         } else {
             return i;
@@ -91,15 +94,15 @@ fn first_free(events: [Event; EVENTS]) -> usize
 }
 
 // With no entry free the room stays as it is.
-pub fn add_event(events: [Event; EVENTS], e: Event) -> [Event; EVENTS]
-    ensures { λ r. ⌜ r ≡ added events e ⌝ }
+pub fn add_event(room: &mut [[u64; ENTRY]; EVENTS], e: Event)
+    ensures { λ _. ⌜ eventsOf (now (room .exit)) ≡ added (eventsOf (now (room .entry))) e ⌝ }
 {
-    let i = first_free(events);
-    put_event(events, i, e)
+    let i = first_free(room);
+    write_event(room, i, e);
 }
 
-pub fn take_event(events: [Event; EVENTS], i: usize) -> [Event; EVENTS]
-    ensures { λ r. ⌜ r ≡ taken events i ⌝ }
+pub fn take_event(room: &mut [[u64; ENTRY]; EVENTS], i: usize)
+    ensures { λ _. ⌜ eventsOf (now (room .exit)) ≡ taken (eventsOf (now (room .entry))) i ⌝ }
 {
-    put_event(events, i, empty_event())
+    write_event(room, i, empty_event());
 }

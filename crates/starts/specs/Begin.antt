@@ -1,5 +1,5 @@
 -- The placed jobs start in order: each gets its start, its completion is queued, and totals and decisions tell it.
-use mathlib.Core.Path.{_≡_, refl}
+use mathlib.Core.Path.{_≡_, refl, ap}
 use mathlib.Core.Bool.{Bool, false, _&&_}
 use mathlib.Core.List.{List, [], _∷_}
 use Prim.Native.Nat.{ℕ}
@@ -9,6 +9,7 @@ use lib.Ieee.{Float}
 use Rattle.laws.specs.Choice.{pick}
 use Rattle.model.specs.Job.{noJob}
 use Rattle.model.specs.Number.{permitted, bitsOf}
+use Rattle.model.specs.declared.event.Event.{Event}
 use Rattle.model.specs.declared.event.EventKind.the-variants.{Completion}
 use Rattle.model.specs.declared.job.Ask.{Ask}
 use Rattle.model.specs.declared.setting.Options.{Options}
@@ -16,11 +17,14 @@ use Rattle.log.specs.Log.{told}
 use Rattle.log.specs.declared.Kind.the-variants.{Started}
 use Rattle.life.specs.Life as Life
 use Rattle.noted.specs.Noted as Noted
-use Rattle.room.specs.Ahead.{queued}
+use Rattle.rows.specs.Job.{jobsOf}
+use Rattle.room.specs.Ahead.{wholeAhead, queued}
+use Rattle.room.specs.declared.ahead.Next.{Next}
 use Rattle.room.specs.declared.ahead.Ahead.{Ahead}
 use Rattle.starts.specs.Turns.{folded}
 use Rattle.starts.specs.declared.begin.Placing.{Placing}
 use Rattle.starts.specs.declared.begin.Begun.{Begun}
+use Rattle.starts.specs.declared.begin.Beginning.{Beginning}
 
 -- what stands in a table where nothing is placed
 unfoldable pub noPlacing : Placing
@@ -33,6 +37,18 @@ amount ask = pick (eqb (ask .profile) 0) (ask .count) (ask .slices)
 -- one more test of the numbers that are stored
 abbrev pub also : Ahead → Bool → Ahead
 also a good = record { events = a .events; next = a .next; ok = a .ok && good }
+
+-- the same of what is kept beside the room
+abbrev pub alsoNext : Next → Bool → Next
+alsoNext a good = record { next = a .next; ok = a .ok && good }
+
+-- and of the whole, put together
+pub also-whole : (a : Next) (events : List Event) (good : Bool) (b : Ahead) → record { events = events; next = a .next; ok = a .ok } ≡ b → record { events = events; next = a .next; ok = a .ok && good } ≡ also b good
+also-whole a events good b e = ap (λ (x : Ahead). also x good) e
+
+-- what starts change, with the tables that were lent
+abbrev pub wholeBegun : Beginning → List (List ℕ) → List (List ℕ) → Begun
+wholeBegun b jobs room = record { jobs = jobsOf jobs; ahead = wholeAhead (b .ahead) room; totals = b .totals; log = b .log }
 
 -- A start: delays are added to the clock, the completion is queued at start + remaining × multiplier under the new run generation; start, waited and added runtime have to be permitted too.
 unfoldable pub begun : Options → Float → Begun → Placing → Begun

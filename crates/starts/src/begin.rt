@@ -10,16 +10,20 @@ use log::tell;
 use model::event::EventKind;
 use model::job::Ask;
 use model::job::Job;
-use model::job::job_at;
-use model::job::put_job;
 use model::number::bits_of;
 use model::number::is_permitted;
 use model::setting::Options;
+use model::sizes::EVENTS;
 use model::sizes::JOBS;
 use model::totals::Totals;
 use noted::after_start;
 use room::ahead::Ahead;
+use room::ahead::Next;
 use room::ahead::queue_event;
+use rows::event::ENTRY;
+use rows::job::ROW;
+use rows::job::read_job;
+use rows::job::write_job;
 use small::both;
 use small::lesser;
 use small::wide_id;
@@ -27,7 +31,7 @@ ghost use mathlib.Core.Path.{_≡_};
 ghost use lib.ListN.{take};
 ghost use mathlib.Core.Bool.{_&&_};
 ghost use Rattle.model.specs.Number.{permitted};
-ghost use Rattle.starts.specs.Begin.{noPlacing, amount, also, begun, begunAll};
+ghost use Rattle.starts.specs.Begin.{noPlacing, amount, alsoNext, wholeBegun, begun, begunAll};
 
 // A job placed in the pass: whether a GPU was cut for it, and whether it is penalised.
 pub struct Placing {
@@ -40,6 +44,13 @@ pub struct Placing {
 pub struct Begun {
     pub jobs: [Job; JOBS],
     pub ahead: Ahead,
+    pub totals: Totals,
+    pub log: Log,
+}
+
+// The same without the tables of jobs and events, which are lent.
+pub struct Beginning {
+    pub ahead: Next,
     pub totals: Totals,
     pub log: Log,
 }
@@ -64,12 +75,10 @@ pub fn amount(ask: Ask) -> u16
     ask.slices as u16
 }
 
-fn also(a: Ahead, good: bool) -> Ahead
-    ensures { λ r. ⌜ r ≡ also a good ⌝ }
+fn also(a: Next, good: bool) -> Next
+    ensures { λ r. ⌜ r ≡ alsoNext a good ⌝ }
 {
-    let events = a.events;
-    Ahead {
-        events: events,
+    Next {
         next: a.next,
         ok: both(a.ok, good),
     }
@@ -85,15 +94,21 @@ fn are_permitted(at: f64, waited: f64, added: f64) -> bool
     )
 }
 
-fn begin(b: Begun, options: Options, clock: f64, p: Placing) -> Begun
-    ensures { λ r. ⌜ r ≡ begun options clock b p ⌝ }
+fn begin(
+    jobs: &mut [[u64; ROW]; JOBS],
+    room: &mut [[u64; ENTRY]; EVENTS],
+    b: Beginning,
+    options: Options,
+    clock: f64,
+    p: Placing,
+) -> Beginning
+    ensures { λ r. ⌜ wholeBegun r (now (jobs .exit)) (now (room .exit)) ≡ begun options clock (wholeBegun b (now (jobs .entry)) (now (room .entry))) p ⌝ }
 {
-    let jobs = b.jobs;
     let ahead = b.ahead;
     let totals = b.totals;
     let log = b.log;
     let i = wide_id(p.job);
-    let j = job_at(jobs, i);
+    let j = read_job(jobs, i);
     let ask = j.ask;
     let at = start_at(j, clock, options, p.cut);
     let multiplier = multiplier_of(options, p.penalised);
@@ -101,9 +116,9 @@ fn begin(b: Begun, options: Options, clock: f64, p: Placing) -> Begun
     let sums = after_start(totals, p.cut, p.penalised, j.remaining, multiplier);
     let good = are_permitted(at, s.waited, sums.added);
     let end = completion_at(j, at, multiplier);
-    let queued = queue_event(ahead, end, EventKind::Completion, p.job, s.run);
-    Begun {
-        jobs: put_job(jobs, i, s),
+    let queued = queue_event(room, ahead, end, EventKind::Completion, p.job, s.run);
+    write_job(jobs, i, s);
+    Beginning {
         ahead: also(queued, good),
         totals: sums,
         log: tell(log, bits_of(at), Kind::Started, p.job, amount(ask)),
@@ -111,19 +126,21 @@ fn begin(b: Begun, options: Options, clock: f64, p: Placing) -> Begun
 }
 
 pub fn begin_all(
-    b: Begun,
+    jobs: &mut [[u64; ROW]; JOBS],
+    room: &mut [[u64; ENTRY]; EVENTS],
+    b: Beginning,
     options: Options,
     clock: f64,
     placed: [Placing; JOBS],
     count: usize,
-) -> Begun
-    ensures { λ r. ⌜ r ≡ begunAll options clock b (take count placed) ⌝ }
+) -> Beginning
+    ensures { λ r. ⌜ wholeBegun r (now (jobs .exit)) (now (room .exit)) ≡ begunAll options clock (wholeBegun b (now (jobs .entry)) (now (room .entry))) (take count placed) ⌝ }
 {
     let n = lesser(count, JOBS);
     let mut work = b;
     let mut i: usize = 0;
     while i < n {
-        let after = begin(work, options, clock, placed[i]);
+        let after = begin(jobs, room, work, options, clock, placed[i]);
         work = after;
         i = i + 1;
     }

@@ -7,8 +7,8 @@ use Rattle.happen.proofs.complete.Tie as tie
 wide-id-requires : tie.Need-wide-id-requires
 wide-id-requires c κs = search needs
 
-job-at-requires : tie.Need-job-at-requires
-job-at-requires c κs = search needs
+read-job-requires : tie.Need-read-job-requires
+read-job-requires c κs = search needs
 
 wide-id-requires-2 : tie.Need-wide-id-requires-2
 wide-id-requires-2 c κs = search needs
@@ -16,8 +16,8 @@ wide-id-requires-2 c κs = search needs
 end-requires : tie.Need-end-requires
 end-requires c κs = search needs
 
-put-job-requires : tie.Need-put-job-requires
-put-job-requires c κs = search needs
+write-job-requires : tie.Need-write-job-requires
+write-job-requires c κs = search needs
 
 plus-one-requires : tie.Need-plus-one-requires
 plus-one-requires c κs = search needs
@@ -33,17 +33,17 @@ say-requires c κs = search needs
 
 returns : tie.Need-returns
 unfolding completes
-returns c = rw (c .say .ensures, c .before .amount .ensures, c .before .before .free-all .ensures, c .before .before .before .plus-one .ensures, c .before .before .before .before .put-job .ensures, c .before .before .before .before .before .end .ensures, c .before .before .before .before .before .before .wide-id2 .ensures, c .before .before .before .before .before .before .before .before .job-at .ensures, c .before .before .before .before .before .before .before .before .before .wide-id .ensures)
+returns c = λ room. rw (c .say .ensures, c .before .amount .ensures, c .before .before .free-all .ensures, c .before .before .before .plus-one .ensures, c .before .before .before .before .write-job .ensures, c .before .before .before .before .before .end .ensures, c .before .before .before .before .before .before .wide-id2 .ensures, c .before .before .before .before .before .before .before .before .before .read-job .ensures, c .before .before .before .before .before .before .before .before .before .before .wide-id .ensures)
 
 pub complete-spec : {M : Type 1} → statement M
 complete-spec =
     tie.close
     (tie.spec
     wide-id-requires
-    job-at-requires
+    read-job-requires
     wide-id-requires-2
     end-requires
-    put-job-requires
+    write-job-requires
     plus-one-requires
     free-all-requires
     amount-requires

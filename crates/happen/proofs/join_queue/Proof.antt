@@ -1,17 +1,10 @@
 -- `happen::join_queue` meets its contract.
 use borrow.Author.Needs.{needs}
-use Rattle.happen.specs.Happen.{joins}
 use Rattle.happen.proofs.join_queue.Statement.{statement}
 use Rattle.happen.proofs.join_queue.Tie as tie
 
 onward-requires : tie.Need-onward-requires
 onward-requires c κs = search needs
-
-wide-id-requires : tie.Need-wide-id-requires
-wide-id-requires c κs = search needs
-
-put-job-requires : tie.Need-put-job-requires
-put-job-requires c κs = search needs
 
 put-queue-requires : tie.Need-put-queue-requires
 put-queue-requires c κs = search needs
@@ -20,16 +13,13 @@ after-join-requires : tie.Need-after-join-requires
 after-join-requires c κs = search needs
 
 returns : tie.Need-returns
-unfolding joins
-returns c = rw (c .after-join .ensures, c .before .put-queue .ensures, c .before .before .put-job .ensures, c .before .before .before .wide-id .ensures, c .before .before .before .before .onward .ensures)
+returns c = rw (c .after-join .ensures, c .before .put-queue .ensures, c .before .before .onward .ensures)
 
 pub join-queue-spec : {M : Type 1} → statement M
 join-queue-spec =
     tie.close
     (tie.spec
     onward-requires
-    wide-id-requires
-    put-job-requires
     put-queue-requires
     after-join-requires
     returns)

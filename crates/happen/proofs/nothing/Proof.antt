@@ -9,7 +9,11 @@ empty-log-requires c κs = search needs
 
 returns : tie.Need-returns
 unfolding stale
-returns c = rw (c .empty-log .ensures)
+returns c = λ jobs room. rw (c .empty-log .ensures)
 
 pub nothing-spec : {M : Type 1} → statement M
-nothing-spec = tie.close (tie.spec empty-log-requires returns)
+nothing-spec =
+    tie.close
+    (tie.spec
+    empty-log-requires
+    returns)

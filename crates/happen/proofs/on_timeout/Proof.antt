@@ -1,16 +1,14 @@
 -- `happen::on_timeout` meets its contract.
 use borrow.Author.Needs.{needs}
-use mathlib.Core.Path.{_≡_}
-use mathlib.Core.Bool.{true, false}
-use Rattle.happen.specs.Happen.{timedOut, ofTimeout, jobOf}
+use Rattle.happen.specs.Happen.{timedOut}
 use Rattle.happen.proofs.on_timeout.Statement.{statement}
 use Rattle.happen.proofs.on_timeout.Tie as tie
 
 wide-id-requires : tie.Need-wide-id-requires
 wide-id-requires c κs = search needs
 
-job-at-requires : tie.Need-job-at-requires
-job-at-requires c κs = search needs
+read-job-requires : tie.Need-read-job-requires
+read-job-requires c κs = search needs
 
 is-of-timeout-requires : tie.Need-is-of-timeout-requires
 is-of-timeout-requires c κs = search needs
@@ -20,21 +18,25 @@ time-out-requires c κs = search needs
 
 returns : tie.Need-returns
 unfolding timedOut
-returns c = let t : ofTimeout (jobOf (c .before .before .before .before .before .before .args .plan) (c .before .before .before .before .before .before .args .e .job)) (c .before .before .before .before .before .before .args .e .generation) ≡ true = cc in rw t (c .time-out .ensures)
+returns c =
+    let t = rw (c .before .before .before .is-of-timeout .ensures, c .before .before .before .before .read-job .ensures, c .before .before .before .before .before .wide-id .ensures) at (c .before .before .if1 .taken) in
+    λ room. rw t (c .time-out .ensures room)
 
 nothing-requires : tie.Need-nothing-requires
 nothing-requires c κs = search needs
 
 returns-2 : tie.Need-returns-2
 unfolding timedOut
-returns-2 c = let t : ofTimeout (jobOf (c .before .before .before .before .before .before .args .plan) (c .before .before .before .before .before .before .args .e .job)) (c .before .before .before .before .before .before .args .e .generation) ≡ false = cc in rw t (c .nothing .ensures)
+returns-2 c =
+    let t = rw (c .before .before .is-of-timeout .ensures, c .before .before .before .read-job .ensures, c .before .before .before .before .wide-id .ensures) at (c .before .if1 .left) in
+    λ room. rw t (c .nothing .ensures (c .before .before .before .before .before .before .args .jobs .now) room)
 
 pub on-timeout-spec : {M : Type 1} → statement M
 on-timeout-spec =
     tie.close
     (tie.spec
     wide-id-requires
-    job-at-requires
+    read-job-requires
     is-of-timeout-requires
     time-out-requires
     returns

@@ -15,7 +15,13 @@ tell-requires c κs = search needs
 
 returns : tie.Need-returns
 unfolding said
-returns c = rw (c .tell .ensures, c .before .bits-of .ensures, c .before .before .empty-log .ensures)
+returns c = λ jobs room. rw (c .tell .ensures, c .before .bits-of .ensures, c .before .before .empty-log .ensures)
 
 pub say-spec : {M : Type 1} → statement M
-say-spec = tie.close (tie.spec empty-log-requires bits-of-requires tell-requires returns)
+say-spec =
+    tie.close
+    (tie.spec
+    empty-log-requires
+    bits-of-requires
+    tell-requires
+    returns)

@@ -7,8 +7,8 @@ use Rattle.happen.proofs.time_out.Tie as tie
 wide-id-requires : tie.Need-wide-id-requires
 wide-id-requires c κs = search needs
 
-job-at-requires : tie.Need-job-at-requires
-job-at-requires c κs = search needs
+read-job-requires : tie.Need-read-job-requires
+read-job-requires c κs = search needs
 
 fail-requires : tie.Need-fail-requires
 fail-requires c κs = search needs
@@ -16,8 +16,8 @@ fail-requires c κs = search needs
 wide-id-requires-2 : tie.Need-wide-id-requires-2
 wide-id-requires-2 c κs = search needs
 
-put-job-requires : tie.Need-put-job-requires
-put-job-requires c κs = search needs
+write-job-requires : tie.Need-write-job-requires
+write-job-requires c κs = search needs
 
 keep-waiting-requires : tie.Need-keep-waiting-requires
 keep-waiting-requires c κs = search needs
@@ -30,17 +30,17 @@ say-requires c κs = search needs
 
 returns : tie.Need-returns
 unfolding timesOut
-returns c = rw (c .say .ensures, c .before .is-permitted .ensures, c .before .before .before .keep-waiting .ensures, c .before .before .before .before .put-job .ensures, c .before .before .before .before .before .wide-id2 .ensures, c .before .before .before .before .before .before .fail .ensures, c .before .before .before .before .before .before .before .job-at .ensures, c .before .before .before .before .before .before .before .before .wide-id .ensures)
+returns c = λ room. rw (c .say .ensures, c .before .is-permitted .ensures, c .before .before .before .keep-waiting .ensures, c .before .before .before .before .before .write-job .ensures, c .before .before .before .before .before .before .wide-id2 .ensures, c .before .before .before .before .before .before .before .before .fail .ensures, c .before .before .before .before .before .before .before .before .before .read-job .ensures, c .before .before .before .before .before .before .before .before .before .before .wide-id .ensures)
 
 pub time-out-spec : {M : Type 1} → statement M
 time-out-spec =
     tie.close
     (tie.spec
     wide-id-requires
-    job-at-requires
+    read-job-requires
     fail-requires
     wide-id-requires-2
-    put-job-requires
+    write-job-requires
     keep-waiting-requires
     is-permitted-requires
     say-requires

@@ -1,12 +1,15 @@
 -- `planner::can_place` meets its contract.
 use borrow.Author.Needs.{needs}
-use borrow.Author.Tests.{lt-ltb, le-ltb}
 use Rattle.planner.specs.Question.{question}
+use borrow.Author.Tests.{lt-ltb, le-ltb}
 use Rattle.planner.proofs.can_place.Statement.{statement}
 use Rattle.planner.proofs.can_place.Tie as tie
 
 cast-if1 : tie.Need-cast-if1
 cast-if1 c = search needs
+
+write-jobs-requires : tie.Need-write-jobs-requires
+write-jobs-requires c κs = search needs
 
 job-at-requires : tie.Need-job-at-requires
 job-at-requires c κs = search needs
@@ -16,11 +19,11 @@ is-placeable-requires c κs = search needs
 
 returns : tie.Need-returns
 unfolding question
-returns c = rw (lt-ltb (c .before .before .before .before .before .before .before .before .args .job) (c .before .before .before .before .before .before .before .before .args .plan .setting .jobs) (c .before .before .before .if1 .taken), ← c .before .before .job-at .ensures, ← c .before .is-placeable .ensures, c .if2 .taken)
+returns c = rw (lt-ltb (c .before .before .before .before .before .before .before .before .before .before .before .args .job) (c .before .before .before .before .before .before .before .before .before .before .before .args .plan .setting .jobs) (c .before .before .before .before .before .before .if1 .taken), ← c .before .before .job-at .ensures, ← c .before .before .before .before .write-jobs .ensures, ← c .before .is-placeable .ensures, c .if2 .taken)
 
 returns-2 : tie.Need-returns-2
 unfolding question
-returns-2 c = rw (lt-ltb (c .before .before .before .before .before .before .before .before .args .job) (c .before .before .before .before .before .before .before .before .args .plan .setting .jobs) (c .before .before .before .if1 .taken), ← c .before .before .job-at .ensures, ← c .before .is-placeable .ensures, c .if2 .left)
+returns-2 c = rw (lt-ltb (c .before .before .before .before .before .before .before .before .before .before .before .args .job) (c .before .before .before .before .before .before .before .before .before .before .before .args .plan .setting .jobs) (c .before .before .before .before .before .before .if1 .taken), ← c .before .before .job-at .ensures, ← c .before .before .before .before .write-jobs .ensures, ← c .before .is-placeable .ensures, c .if2 .left)
 
 returns-3 : tie.Need-returns-3
 unfolding question
@@ -28,4 +31,12 @@ returns-3 c = rw (le-ltb (c .before .before .before .before .before .args .job) 
 
 pub can-place-spec : {M : Type 1} → statement M
 can-place-spec =
-    tie.close (tie.spec cast-if1 job-at-requires is-placeable-requires returns returns-2 returns-3)
+    tie.close
+    (tie.spec
+    cast-if1
+    write-jobs-requires
+    job-at-requires
+    is-placeable-requires
+    returns
+    returns-2
+    returns-3)

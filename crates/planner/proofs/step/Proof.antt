@@ -1,44 +1,53 @@
 -- `planner::step` meets its contract.
 use borrow.Author.Needs.{needs}
-use native.Mathlib.Omega.{arith}
-use mathlib.Core.Path.{sym, _∙_}
-use Rattle.planner.specs.Step.{done-short, done-none, done-barred, done-taken}
+use Rattle.planner.specs.Lent.{whole-is, done-lent, done-kept}
+use Rattle.happen.specs.declared.Rest.{Rest}
+use Rattle.happen.specs.Happen.{wholePlan}
+use mathlib.Core.Path.{sym, ap, _∙_}
 use Rattle.planner.proofs.step.Statement.{statement}
 use Rattle.planner.proofs.step.Tie as tie
 
-returns : tie.Need-returns
-returns c = done-short (c .before .before .args .plan) _ (omega arith)
+write-jobs-requires : tie.Need-write-jobs-requires
+write-jobs-requires c κs = search needs
 
-has-event-requires : tie.Need-has-event-requires
-has-event-requires c κs = search needs
+write-events-requires : tie.Need-write-events-requires
+write-events-requires c κs = search needs
 
-advance-requires : tie.Need-advance-requires
-advance-requires c κs = search needs
+rest-of-requires : tie.Need-rest-of-requires
+rest-of-requires c κs = search needs
 
-write-words-requires : tie.Need-write-words-requires
-write-words-requires c κs = search needs
+step-lent-requires : tie.Need-step-lent-requires
+step-lent-requires c κs = search needs
+
+is-taken-requires : tie.Need-is-taken-requires
+is-taken-requires c κs = search needs
+
+plan-of-requires : tie.Need-plan-of-requires
+plan-of-requires c κs = search needs
 
 same-length : tie.Need-same-length
 same-length c = search needs
 
+returns : tie.Need-returns
+returns c = done-lent (c .before .before .before .before .before .before .before .before .before .before .before .before .before .before .before .before .before .before .before .args .plan) (c .before .before .before .before .before .before .before .before .before .before .before .before .before .before .before .before .before .before .before .args .decisions .now) _ (ap (λ (r : Rest). wholePlan r (c .before .before .before .before .before .before .before .before .before .before .before .before .before .before .write-jobs .last .0) (c .before .before .before .before .before .before .before .before .before .before .before .before .write-events .last .0)) (c .before .before .before .before .before .before .before .before .before .rest-of .ensures) ∙ whole-is (c .before .before .before .before .before .before .before .before .before .before .before .before .before .before .before .before .before .before .before .args .plan) (c .before .before .before .before .before .before .before .before .before .before .before .before .before .before .write-jobs .last .0) (c .before .before .before .before .before .before .before .before .before .before .before .before .write-events .last .0) (c .before .before .before .before .before .before .before .before .before .before .before .before .before .before .write-jobs .ensures) (c .before .before .before .before .before .before .before .before .before .before .before .before .write-events .ensures)) (c .before .before .before .before .before .before .before .step-lent .result .answer) (c .plan-of .result) _ (c .before .before .before .before .before .before .before .step-lent .ensures .0, (c .plan-of .ensures ∙ c .before .before .before .before .before .before .before .step-lent .ensures .1 .0, c .before .before .before .before .before .before .before .step-lent .ensures .1 .1)) (sym (c .before .before .before .before .is-taken .ensures) ∙ c .before .before .before .if1 .taken)
+
+same-length-2 : tie.Need-same-length-2
+same-length-2 c = search needs
+
 returns-2 : tie.Need-returns-2
-returns-2 c = done-taken (c .before .before .before .before .before .before .before .before .before .before .before .before .before .args .plan) (c .before .before .before .before .before .before .before .before .before .before .before .before .before .args .decisions .now) (omega arith) (sym (c .before .before .before .before .before .before .before .before .before .before .has-event .ensures) ∙ c .before .before .before .before .before .before .before .before .before .if2 .taken) (c .before .before .before .before .before .before .before .before .advance .result) (c .before .before .before .before .before .before .before .before .advance .ensures) _ (c .before .before .before .before .before .before .if3 .taken) (c .before .before .write-words .ensures)
-
-returns-3 : tie.Need-returns-3
-returns-3 c = done-barred (c .before .before .before .before .before .before .before .args .plan) (c .before .before .before .before .before .before .before .args .decisions .now) (omega arith) (sym (c .before .before .before .before .has-event .ensures) ∙ c .before .before .before .if2 .taken) (c .before .before .advance .result) (c .before .before .advance .ensures) (c .if3 .left)
-
-returns-4 : tie.Need-returns-4
-returns-4 c = done-none (c .before .before .before .before .args .plan) (c .before .before .before .before .args .decisions .now) (omega arith) (sym (c .before .has-event .ensures) ∙ c .if2 .left)
+returns-2 c = done-kept (c .before .before .before .before .before .before .before .before .before .before .before .before .before .before .before .before .args .plan) (c .before .before .before .before .before .before .before .before .before .before .before .before .before .before .before .before .args .decisions .now) _ (ap (λ (r : Rest). wholePlan r (c .before .before .before .before .before .before .before .before .before .before .before .write-jobs .last .0) (c .before .before .before .before .before .before .before .before .before .write-events .last .0)) (c .before .before .before .before .before .before .rest-of .ensures) ∙ whole-is (c .before .before .before .before .before .before .before .before .before .before .before .before .before .before .before .before .args .plan) (c .before .before .before .before .before .before .before .before .before .before .before .write-jobs .last .0) (c .before .before .before .before .before .before .before .before .before .write-events .last .0) (c .before .before .before .before .before .before .before .before .before .before .before .write-jobs .ensures) (c .before .before .before .before .before .before .before .before .before .write-events .ensures)) (c .before .before .before .before .step-lent .result .answer) _ _ (c .before .before .before .before .step-lent .ensures) (sym (c .before .is-taken .ensures) ∙ c .if1 .left)
 
 pub step-spec : {M : Type 1} → statement M
 step-spec =
     tie.close
     (tie.spec
-    returns
-    has-event-requires
-    advance-requires
-    write-words-requires
+    write-jobs-requires
+    write-events-requires
+    rest-of-requires
+    step-lent-requires
+    is-taken-requires
+    plan-of-requires
     same-length
-    returns-2
-    returns-3
-    returns-4)
+    returns
+    same-length-2
+    returns-2)

@@ -2,38 +2,31 @@
 use borrow.Author.Needs.{needs}
 use native.Mathlib.Omega.{arith}
 use mathlib.Core.Path.{_≡_, refl}
-use Prim.Native.Nat.{ℕ, _≤_, _<_, _-_}
-use Rattle.laws.specs.Choice.{pick, pick-either}
-use Rattle.laws.specs.Tables.{getD-any}
+use Prim.Native.Nat.{_≤_, _-_}
+use Rattle.laws.specs.Choice.{pick}
 use Rattle.laws.specs.Greatest as Greatest
 use Rattle.laws.specs.Greatest.{best-step, best-end}
 use Rattle.model.specs.Sizes as Sizes
-use Rattle.model.specs.Event.{emptyEvent}
+use Rattle.rows.specs.Event.{eventsOf}
 use Rattle.room.specs.Room.{aheadAt, least}
 use Rattle.room.proofs.least_event.Statement.{statement}
 use Rattle.room.proofs.least_event.Tie as tie
 
 abbrev Inv-loop : tie.InvT-loop
-Inv-loop events best₀ i₀ best i = (best < Sizes.events) × (i ≤ Sizes.events) × (Greatest.best (aheadAt events) (Sizes.events - i) i best ≡ least events)
+Inv-loop room best₀ i₀ best i = (i ≤ Sizes.events) × (Greatest.best (aheadAt (eventsOf room)) (Sizes.events - i) i best ≡ least (eventsOf room))
 
 abbrev μ-loop : tie.MeasureT-loop
-μ-loop events best₀ i₀ best i = Sizes.events - i
+μ-loop room best₀ i₀ best i = Sizes.events - i
 
 loop-holds : tie.Need-loop-holds Inv-loop μ-loop
 unfolding least
-loop-holds c = (omega arith, omega arith, refl)
+loop-holds c = (omega arith, refl)
 
-mul-better : tie.Need-mul-better Inv-loop μ-loop
-mul-better c = search needs
+read-event-requires : tie.Need-read-event-requires Inv-loop μ-loop
+read-event-requires c κs = search needs
 
-array-copy-out-better : tie.Need-array-copy-out-better Inv-loop μ-loop
-array-copy-out-better c = search needs
-
-mul-better-2 : tie.Need-mul-better-2 Inv-loop μ-loop
-mul-better-2 c = search needs
-
-array-copy-out-better-2 : tie.Need-array-copy-out-better-2 Inv-loop μ-loop
-array-copy-out-better-2 c = search needs
+read-event-requires-2 : tie.Need-read-event-requires-2 Inv-loop μ-loop
+read-event-requires-2 c κs = search needs
 
 better-requires : tie.Need-better-requires Inv-loop μ-loop
 better-requires c κs = search needs
@@ -46,14 +39,11 @@ loop-less c = omega arith
 
 loop-again : tie.Need-loop-again Inv-loop μ-loop
 loop-again c =
-    let e : c .better .result ≡ pick (aheadAt (c .before .before .before .before .before .args .t1) (c .before .before .before .before .loop .i) (c .before .before .before .before .loop .best)) (c .before .before .before .before .loop .i) (c .before .before .before .before .loop .best) = rw (getD-any (c .before .before .before .before .before .args .t1) (c .before .before .before .before .loop .i) _ emptyEvent (omega arith), getD-any (c .before .before .before .before .before .args .t1) (c .before .before .before .before .loop .best) _ emptyEvent (omega arith)) at (c .better .ensures) in (
-      rw e (pick-either (λ (k : ℕ). k < Sizes.events) (aheadAt (c .before .before .before .before .before .args .t1) (c .before .before .before .before .loop .i) (c .before .before .before .before .loop .best)) (c .before .before .before .before .loop .i) (c .before .before .before .before .loop .best) (omega arith) (omega arith)),
-      omega arith,
-      rw (e, ← best-step (aheadAt (c .before .before .before .before .before .args .t1)) Sizes.events (c .before .before .before .before .loop .i) (c .before .before .before .before .loop .best) (omega arith)) (c .before .before .before .before .loop .inv .2),
-    )
+    let e : c .better .result ≡ pick (aheadAt (eventsOf (c .before .before .before .before .before .args .room .now)) (c .before .before .before .before .loop .i) (c .before .before .before .before .loop .best)) (c .before .before .before .before .loop .i) (c .before .before .before .before .loop .best) = rw (c .before .before .read-event .ensures, c .before .read-event2 .ensures) at (c .better .ensures) in
+    (omega arith, rw (e, ← best-step (aheadAt (eventsOf (c .before .before .before .before .before .args .room .now))) Sizes.events (c .before .before .before .before .loop .i) (c .before .before .before .before .loop .best) (omega arith)) (c .before .before .before .before .loop .inv .1))
 
 returns : tie.Need-returns Inv-loop μ-loop
-returns c = rw (best-end (aheadAt (c .before .before .args .t1)) Sizes.events (c .before .loop .i) (c .before .loop .best) (omega arith)) at (c .before .loop .inv .2)
+returns c = rw (best-end (aheadAt (eventsOf (c .before .before .args .room .now))) Sizes.events (c .before .loop .i) (c .before .loop .best) (omega arith)) at (c .before .loop .inv .1)
 
 pub least-event-spec : {M : Type 1} → statement M
 least-event-spec =
@@ -62,10 +52,8 @@ least-event-spec =
     Inv-loop
     μ-loop
     loop-holds
-    mul-better
-    array-copy-out-better
-    mul-better-2
-    array-copy-out-better-2
+    read-event-requires
+    read-event-requires-2
     better-requires
     add-i
     loop-less

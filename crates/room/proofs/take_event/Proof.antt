@@ -7,12 +7,12 @@ use Rattle.room.proofs.take_event.Tie as tie
 empty-event-requires : tie.Need-empty-event-requires
 empty-event-requires c κs = search needs
 
-put-event-requires : tie.Need-put-event-requires
-put-event-requires c κs = search needs
+write-event-requires : tie.Need-write-event-requires
+write-event-requires c κs = search needs
 
 returns : tie.Need-returns
 unfolding taken
-returns c = rw (← c .before .empty-event .ensures) (c .put-event .ensures)
+returns c = rw (← c .before .empty-event .ensures) (c .write-event .ensures)
 
 pub take-event-spec : {M : Type 1} → statement M
-take-event-spec = tie.close (tie.spec empty-event-requires put-event-requires returns)
+take-event-spec = tie.close (tie.spec empty-event-requires write-event-requires returns)

@@ -2,6 +2,8 @@
 use borrow.Author.Needs.{needs}
 use Rattle.cluster.specs.QueueLaws.{read-turn, read-end}
 use Rattle.cluster.specs.Queue.{arrivalOf}
+use Rattle.model.specs.Job.{noJob}
+use Rattle.rows.specs.Job.{jobsOf}
 use lib.ListN.{length, take, drop, length-set}
 use mathlib.Core.List.{map, _++_}
 use mathlib.Core.Path.{_≡_, refl, _∙_}
@@ -11,19 +13,19 @@ use Rattle.cluster.proofs.queue.arrivals.Statement.{statement}
 use Rattle.cluster.proofs.queue.arrivals.Tie as tie
 
 abbrev Inv-loop : tie.InvT-loop
-Inv-loop jobs numbers₀ i₀ numbers i = (i ≤ 128) × (length numbers ≡ 128) × (take i numbers ++ map arrivalOf (drop i jobs) ≡ map arrivalOf jobs)
+Inv-loop jobs m numbers₀ i₀ numbers i = (i ≤ 128) × (length numbers ≡ 128) × (take i numbers ++ map arrivalOf (drop i (jobsOf jobs)) ≡ map arrivalOf (jobsOf jobs))
 
 abbrev μ-loop : tie.MeasureT-loop
-μ-loop jobs numbers₀ i₀ numbers i = 128 - i
+μ-loop jobs m numbers₀ i₀ numbers i = 128 - i
+
+job-places-requires : tie.Need-job-places-requires Inv-loop μ-loop
+job-places-requires c κs = search needs
 
 loop-holds : tie.Need-loop-holds Inv-loop μ-loop
 loop-holds c = (omega arith, refl, refl)
 
-mul-arrival-of : tie.Need-mul-arrival-of Inv-loop μ-loop
-mul-arrival-of c = search needs
-
-array-copy-out-arrival-of : tie.Need-array-copy-out-arrival-of Inv-loop μ-loop
-array-copy-out-arrival-of c = search needs
+read-job-requires : tie.Need-read-job-requires Inv-loop μ-loop
+read-job-requires c κs = search needs
 
 arrival-of-requires : tie.Need-arrival-of-requires Inv-loop μ-loop
 arrival-of-requires c κs = search needs
@@ -41,10 +43,10 @@ loop-less : tie.Need-loop-less Inv-loop μ-loop
 loop-less c = omega arith
 
 loop-again : tie.Need-loop-again Inv-loop μ-loop
-loop-again c = (omega arith, simp length-set (omega arith), rw (c .arrival-of .ensures) (read-turn arrivalOf (c .before .before .before .before .args .t1) (c .before .before .before .loop .numbers) (c .before .before .before .loop .i) _ (omega arith) (omega arith) ∙ c .before .before .before .loop .inv .2))
+loop-again c = (omega arith, simp length-set (omega arith), rw (c .arrival-of .ensures, c .before .read-job .ensures) (read-turn arrivalOf (jobsOf (c .before .before .before .before .before .args .jobs .now)) (c .before .before .before .loop .numbers) (c .before .before .before .loop .i) noJob (omega arith) (omega arith) ∙ c .before .before .before .loop .inv .2))
 
 returns : tie.Need-returns Inv-loop μ-loop
-returns c = read-end arrivalOf (c .before .before .args .t1) (c .before .loop .numbers) (c .before .loop .i) (omega arith) (omega arith) ∙ c .before .loop .inv .2
+returns c = read-end arrivalOf (jobsOf (c .before .before .before .args .jobs .now)) (c .before .loop .numbers) (c .before .loop .i) (omega arith) (omega arith) ∙ c .before .loop .inv .2
 
 pub arrivals-spec : {M : Type 1} → statement M
 arrivals-spec =
@@ -52,9 +54,9 @@ arrivals-spec =
     (tie.spec
     Inv-loop
     μ-loop
+    job-places-requires
     loop-holds
-    mul-arrival-of
-    array-copy-out-arrival-of
+    read-job-requires
     arrival-of-requires
     mul-numbers
     array-write-numbers

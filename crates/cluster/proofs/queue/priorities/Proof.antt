@@ -2,6 +2,8 @@
 use borrow.Author.Needs.{needs}
 use Rattle.cluster.specs.QueueLaws.{read-turn, read-end}
 use Rattle.cluster.specs.Queue.{priorityOf}
+use Rattle.model.specs.Job.{noJob}
+use Rattle.rows.specs.Job.{jobsOf}
 use lib.ListN.{length, take, drop, length-set}
 use mathlib.Core.List.{map, _++_}
 use mathlib.Core.Path.{_≡_, refl, _∙_}
@@ -11,19 +13,19 @@ use Rattle.cluster.proofs.queue.priorities.Statement.{statement}
 use Rattle.cluster.proofs.queue.priorities.Tie as tie
 
 abbrev Inv-loop : tie.InvT-loop
-Inv-loop jobs numbers₀ i₀ numbers i = (i ≤ 128) × (length numbers ≡ 128) × (take i numbers ++ map priorityOf (drop i jobs) ≡ map priorityOf jobs)
+Inv-loop jobs m numbers₀ i₀ numbers i = (i ≤ 128) × (length numbers ≡ 128) × (take i numbers ++ map priorityOf (drop i (jobsOf jobs)) ≡ map priorityOf (jobsOf jobs))
 
 abbrev μ-loop : tie.MeasureT-loop
-μ-loop jobs numbers₀ i₀ numbers i = 128 - i
+μ-loop jobs m numbers₀ i₀ numbers i = 128 - i
+
+job-places-requires : tie.Need-job-places-requires Inv-loop μ-loop
+job-places-requires c κs = search needs
 
 loop-holds : tie.Need-loop-holds Inv-loop μ-loop
 loop-holds c = (omega arith, refl, refl)
 
-mul-priority-of : tie.Need-mul-priority-of Inv-loop μ-loop
-mul-priority-of c = search needs
-
-array-copy-out-priority-of : tie.Need-array-copy-out-priority-of Inv-loop μ-loop
-array-copy-out-priority-of c = search needs
+read-job-requires : tie.Need-read-job-requires Inv-loop μ-loop
+read-job-requires c κs = search needs
 
 priority-of-requires : tie.Need-priority-of-requires Inv-loop μ-loop
 priority-of-requires c κs = search needs
@@ -41,10 +43,10 @@ loop-less : tie.Need-loop-less Inv-loop μ-loop
 loop-less c = omega arith
 
 loop-again : tie.Need-loop-again Inv-loop μ-loop
-loop-again c = (omega arith, simp length-set (omega arith), rw (c .priority-of .ensures) (read-turn priorityOf (c .before .before .before .before .args .t1) (c .before .before .before .loop .numbers) (c .before .before .before .loop .i) _ (omega arith) (omega arith) ∙ c .before .before .before .loop .inv .2))
+loop-again c = (omega arith, simp length-set (omega arith), rw (c .priority-of .ensures, c .before .read-job .ensures) (read-turn priorityOf (jobsOf (c .before .before .before .before .before .args .jobs .now)) (c .before .before .before .loop .numbers) (c .before .before .before .loop .i) noJob (omega arith) (omega arith) ∙ c .before .before .before .loop .inv .2))
 
 returns : tie.Need-returns Inv-loop μ-loop
-returns c = read-end priorityOf (c .before .before .args .t1) (c .before .loop .numbers) (c .before .loop .i) (omega arith) (omega arith) ∙ c .before .loop .inv .2
+returns c = read-end priorityOf (jobsOf (c .before .before .before .args .jobs .now)) (c .before .loop .numbers) (c .before .loop .i) (omega arith) (omega arith) ∙ c .before .loop .inv .2
 
 pub priorities-spec : {M : Type 1} → statement M
 priorities-spec =
@@ -52,9 +54,9 @@ priorities-spec =
     (tie.spec
     Inv-loop
     μ-loop
+    job-places-requires
     loop-holds
-    mul-priority-of
-    array-copy-out-priority-of
+    read-job-requires
     priority-of-requires
     mul-numbers
     array-write-numbers

@@ -1,6 +1,7 @@
 -- `cluster::queue::sort_queue` meets its contract.
 use borrow.Author.Needs.{needs}
 use Rattle.cluster.specs.QueueLaws.{queue-numbers}
+use Rattle.rows.specs.Job.{jobsOf}
 use mathlib.Core.Path.{_∙_}
 use Rattle.cluster.proofs.queue.sort_queue.Statement.{statement}
 use Rattle.cluster.proofs.queue.sort_queue.Tie as tie
@@ -15,7 +16,7 @@ sort-front-requires : tie.Need-sort-front-requires
 sort-front-requires c κs = search needs
 
 returns : tie.Need-returns
-returns c = c .sort-front .ensures ∙ rw (c .before .arrivals .ensures, c .before .before .priorities .ensures) (queue-numbers (c .before .before .before .args .jobs) (c .before .before .before .args .queue) (c .before .before .before .args .n))
+returns c = c .sort-front .ensures ∙ rw (c .before .before .before .arrivals .ensures, c .before .before .before .before .priorities .ensures) (queue-numbers (jobsOf (c .before .before .before .before .before .args .jobs .now)) (c .before .before .before .before .before .args .queue) (c .before .before .before .before .before .args .n))
 
 pub sort-queue-spec : {M : Type 1} → statement M
 sort-queue-spec =

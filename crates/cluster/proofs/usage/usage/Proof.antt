@@ -3,18 +3,23 @@ use borrow.Author.Needs.{needs}
 use Rattle.cluster.specs.UsageSteps.{usage-turn, usage-end}
 use Rattle.cluster.specs.Usage.{chargeTo}
 use Rattle.laws.specs.Sums.{sumOver}
+use Rattle.model.specs.Job.{noJob}
+use Rattle.rows.specs.Job.{jobsOf}
 use lib.ListN.{take}
-use mathlib.Core.Path.{_≡_, refl, _∙_}
+use mathlib.Core.Path.{_≡_, refl, ap, _∙_}
 use native.Mathlib.Omega.{arith}
-use Prim.Native.Nat.{_≤_, _-_, _*_}
+use Prim.Native.Nat.{_≤_, _-_, _*_, min}
 use Rattle.cluster.proofs.usage.usage.Statement.{statement}
 use Rattle.cluster.proofs.usage.usage.Tie as tie
 
 abbrev Inv-loop : tie.InvT-loop
-Inv-loop n tenant jobs m sum₀ i₀ sum i = (i ≤ m) × (m ≤ 128) × (sum ≤ 4294967296 * i) × (sum ≡ sumOver (chargeTo tenant) (take i jobs))
+Inv-loop jobs n tenant m sum₀ i₀ sum i = (i ≤ m) × (m ≤ 128) × (sum ≤ 4294967296 * i) × (sum ≡ sumOver (chargeTo tenant) (take i (jobsOf jobs)))
 
 abbrev μ-loop : tie.MeasureT-loop
-μ-loop n tenant jobs m sum₀ i₀ sum i = m - i
+μ-loop jobs n tenant m sum₀ i₀ sum i = m - i
+
+job-places-requires : tie.Need-job-places-requires Inv-loop μ-loop
+job-places-requires c κs = search needs
 
 lesser-requires : tie.Need-lesser-requires Inv-loop μ-loop
 lesser-requires c κs = search needs
@@ -23,11 +28,8 @@ loop-holds : tie.Need-loop-holds Inv-loop μ-loop
 unfolding sumOver
 loop-holds c = (omega arith, omega arith, omega arith, refl)
 
-mul-charge-to : tie.Need-mul-charge-to Inv-loop μ-loop
-mul-charge-to c = search needs
-
-array-copy-out-charge-to : tie.Need-array-copy-out-charge-to Inv-loop μ-loop
-array-copy-out-charge-to c = search needs
+read-job-requires : tie.Need-read-job-requires Inv-loop μ-loop
+read-job-requires c κs = search needs
 
 charge-to-requires : tie.Need-charge-to-requires Inv-loop μ-loop
 charge-to-requires c κs = search needs
@@ -45,10 +47,10 @@ loop-less : tie.Need-loop-less Inv-loop μ-loop
 loop-less c = omega arith
 
 loop-again : tie.Need-loop-again Inv-loop μ-loop
-loop-again c = (omega arith, omega arith, omega arith, usage-turn (c .before .before .before .before .before .args .t1) (c .before .before .before .before .before .args .tenant) (c .before .before .before .loop .i) (c .before .before .before .loop .sum) (c .charge-to .result) _ (omega arith) (c .before .before .before .loop .inv .3) (c .charge-to .ensures))
+loop-again c = (omega arith, omega arith, omega arith, usage-turn (jobsOf (c .before .before .before .before .before .before .args .jobs .now)) (c .before .before .before .before .before .before .args .tenant) (c .before .before .before .loop .i) (c .before .before .before .loop .sum) (c .charge-to .result) noJob (omega arith) (c .before .before .before .loop .inv .3) (rw (← c .before .read-job .ensures) (c .charge-to .ensures)))
 
 returns : tie.Need-returns Inv-loop μ-loop
-returns c = c .before .loop .inv .3 ∙ usage-end (c .before .before .before .args .t1) (c .before .before .before .args .n) (c .before .before .before .args .tenant) (c .before .before .lesser .result) (c .before .loop .i) (c .before .before .lesser .ensures) (omega arith) (omega arith)
+returns c = c .before .loop .inv .3 ∙ usage-end (jobsOf (c .before .before .before .before .args .jobs .now)) (c .before .before .before .before .args .n) (c .before .before .before .before .args .tenant) (c .before .before .lesser .result) (c .before .loop .i) (c .before .before .lesser .ensures ∙ ap (min _) (c .before .before .before .job-places .ensures .0)) (omega arith) (omega arith)
 
 pub usage-spec : {M : Type 1} → statement M
 usage-spec =
@@ -56,10 +58,10 @@ usage-spec =
     (tie.spec
     Inv-loop
     μ-loop
+    job-places-requires
     lesser-requires
     loop-holds
-    mul-charge-to
-    array-copy-out-charge-to
+    read-job-requires
     charge-to-requires
     cast-sum
     add-sum

@@ -1,6 +1,6 @@
 -- `engine::settle::settle` meets its contract.
 use borrow.Author.Needs.{needs}
-use Rattle.engine.specs.Settle.{settled}
+use Rattle.engine.specs.Lent.{settled-lent}
 use Rattle.engine.proofs.settle.settle.Statement.{statement}
 use Rattle.engine.proofs.settle.settle.Tie as tie
 
@@ -14,8 +14,7 @@ with-pass-requires : tie.Need-with-pass-requires
 with-pass-requires c κs = search needs
 
 returns : tie.Need-returns
-unfolding settled
-returns c = rw (c .with-pass .ensures, c .before .before .before .starts-of .ensures, c .before .before .before .before .pass-of .ensures)
+returns c = settled-lent (c .before .before .before .before .before .before .before .before .before .before .args .m) (c .before .before .before .before .before .before .before .before .before .before .args .jobs .now) (c .before .before .before .before .before .before .before .before .before .before .args .room .now) (c .before .before .before .before .before .before .before .pass-of .last .0) (c .before .before .before .before .starts-of .last .0) (c .before .before .before .before .starts-of .last .1 .0) (c .before .before .before .before .before .before .before .pass-of .result) (c .before .before .before .before .starts-of .result) (c .with-pass .result) (c .before .before .before .before .before .before .before .pass-of .ensures) (c .before .before .before .before .starts-of .ensures) (c .with-pass .ensures)
 
 pub settle-spec : {M : Type 1} → statement M
 settle-spec = tie.close (tie.spec pass-of-requires starts-of-requires with-pass-requires returns)

@@ -1,6 +1,6 @@
 -- `engine::settle::starts_of` meets its contract.
 use borrow.Author.Needs.{needs}
-use Rattle.engine.specs.Settle.{startsOf}
+use Rattle.engine.specs.Lent.{starts-lent}
 use Rattle.engine.proofs.settle.starts_of.Statement.{statement}
 use Rattle.engine.proofs.settle.starts_of.Tie as tie
 
@@ -11,8 +11,7 @@ begin-all-requires : tie.Need-begin-all-requires
 begin-all-requires c κs = search needs
 
 returns : tie.Need-returns
-unfolding startsOf
-returns c = rw (c .begin-all .ensures, c .before .queue-timeouts .ensures)
+returns c = starts-lent (c .before .before .before .before .before .before .before .before .before .before .before .before .before .args .rest) (c .before .before .before .before .before .before .before .before .before .before .before .before .before .args .pass) (c .before .before .before .before .before .before .before .before .before .before .before .before .before .args .jobs .now) (c .before .before .before .before .before .before .before .before .before .before .before .before .before .args .room .now) (c .before .before .before .queue-timeouts .last .0) (c .before .before .before .queue-timeouts .result) _ (c .before .before .before .queue-timeouts .ensures) (c .begin-all .ensures)
 
 pub starts-of-spec : {M : Type 1} → statement M
 starts-of-spec = tie.close (tie.spec queue-timeouts-requires begin-all-requires returns)

@@ -1,6 +1,6 @@
 -- `engine::settle::with_pass` meets its contract.
 use borrow.Author.Needs.{needs}
-use Rattle.engine.specs.Settle.{withPass}
+use Rattle.engine.specs.Lent.{restAfter}
 use Rattle.engine.proofs.settle.with_pass.Statement.{statement}
 use Rattle.engine.proofs.settle.with_pass.Tie as tie
 
@@ -8,7 +8,7 @@ keep-waiting-requires : tie.Need-keep-waiting-requires
 keep-waiting-requires c κs = search needs
 
 returns : tie.Need-returns
-unfolding withPass
+unfolding restAfter
 returns c = rw (c .before .keep-waiting .ensures)
 
 pub with-pass-spec : {M : Type 1} → statement M

@@ -3,17 +3,18 @@ use mathlib.Core.Path.{_≡_, refl, sym, _∙_}
 use Prim.Native.Nat.{_≤_, _-_}
 use native.Mathlib.Omega.{arith}
 use lib.ListN.{length}
+use Rattle.happen.specs.Happen.{wholePlan}
 use Rattle.gpu_planner.specs.Run.{runTo, behind, turns}
-use Rattle.gpu_planner.specs.RunLaws.{turn-is, turn-on, turns-over, both-of}
+use Rattle.gpu_planner.specs.RunLaws.{lent-turn-is, lent-turn-on, turns-over, both-of}
 use borrow.Author.Needs.{needs}
 use Rattle.gpu_planner.proofs.run.run.Statement.{statement}
 use Rattle.gpu_planner.proofs.run.run.Tie as tie
 
 abbrev Inv-loop : tie.InvT-loop
-Inv-loop words₀ plan₀ count₀ steps₀ words plan count steps = (steps ≤ turns) × (behind count ≤ length words) × (length words ≡ length words₀) × (runTo (turns - steps) plan steps count words ≡ runTo turns plan₀ 0 0 words₀)
+Inv-loop jobs₀ room₀ words₀ rest₀ count₀ steps₀ jobs room words rest count steps = (steps ≤ turns) × (behind count ≤ length words) × (length words ≡ length words₀) × (runTo (turns - steps) (wholePlan rest jobs room) steps count words ≡ runTo turns (wholePlan rest₀ jobs₀ room₀) 0 0 words₀)
 
 abbrev μ-loop : tie.MeasureT-loop
-μ-loop words₀ plan₀ count₀ steps₀ words plan count steps = turns - steps
+μ-loop jobs₀ room₀ words₀ rest₀ count₀ steps₀ jobs room words rest count steps = turns - steps
 
 loop-holds : tie.Need-loop-holds Inv-loop μ-loop
 loop-holds c = (omega arith, omega arith, refl, refl)
@@ -24,20 +25,20 @@ mul-at c = search needs
 add-at : tie.Need-add-at Inv-loop μ-loop
 add-at c = search needs
 
-mul-step : tie.Need-mul-step Inv-loop μ-loop
-mul-step c = search needs
+mul-step-lent : tie.Need-mul-step-lent Inv-loop μ-loop
+mul-step-lent c = search needs
 
-sub-step : tie.Need-sub-step Inv-loop μ-loop
-sub-step c = search needs
+sub-step-lent : tie.Need-sub-step-lent Inv-loop μ-loop
+sub-step-lent c = search needs
 
-part-step-start : tie.Need-part-step-start Inv-loop μ-loop
-part-step-start c = search needs
+part-step-lent-start : tie.Need-part-step-lent-start Inv-loop μ-loop
+part-step-lent-start c = search needs
 
-part-step-end : tie.Need-part-step-end Inv-loop μ-loop
-part-step-end c = search needs
+part-step-lent-end : tie.Need-part-step-lent-end Inv-loop μ-loop
+part-step-lent-end c = search needs
 
-step-requires : tie.Need-step-requires Inv-loop μ-loop
-step-requires c κs = search needs
+step-lent-requires : tie.Need-step-lent-requires Inv-loop μ-loop
+step-lent-requires c κs = search needs
 
 enum-known-answer : tie.Need-enum-known-answer Inv-loop μ-loop
 enum-known-answer c = search needs
@@ -59,7 +60,7 @@ same-length c = search needs
 
 returns : tie.Need-returns Inv-loop μ-loop
 returns c =
-    let t : _ = turn-is (c .before .before .before .before .before .before .before .before .before .loop .plan) (c .before .before .before .before .before .before .before .before .before .loop .steps) (c .before .before .before .before .before .before .before .before .before .loop .count) (c .before .before .before .before .before .before .before .before .before .loop .words) (c .before .before .before .before .before .before .step .last .1 .0) (c .before .before .before .before .before .before .step .result) _ (c .before .before .before .before .before .before .step .ensures .0) (c .before .before .before .before .before .before .step .ensures .1) (omega arith) (c .before .before .before .before .before .before .before .before .before .loop .inv .3) in
+    let t : _ = lent-turn-is (wholePlan (c .before .before .before .before .before .before .before .before .before .before .before .loop .rest) (c .before .before .before .before .before .before .before .before .before .before .before .loop .jobs) (c .before .before .before .before .before .before .before .before .before .before .before .loop .room)) (c .before .before .before .before .before .before .before .before .before .before .before .loop .steps) (c .before .before .before .before .before .before .before .before .before .before .before .loop .count) (c .before .before .before .before .before .before .before .before .before .before .before .loop .words) (c .before .before .before .before .before .before .step-lent .last .1 .1 .1 .0) (c .before .before .before .before .before .before .step-lent .result .answer) (wholePlan (c .before .before .before .before .before .before .step-lent .result .rest) (c .before .before .before .before .before .before .step-lent .last .0) (c .before .before .before .before .before .before .step-lent .last .1 .0)) _ (c .before .before .before .before .before .before .step-lent .ensures) (omega arith) (c .before .before .before .before .before .before .before .before .before .before .before .loop .inv .3) in
     both-of _ _ (c .ended .result) _ (rw (c .before .enum-told .given .1) at t) (c .ended .ensures)
 
 enum-told-2 : tie.Need-enum-told-2 Inv-loop μ-loop
@@ -73,7 +74,7 @@ same-length-2 c = search needs
 
 returns-2 : tie.Need-returns-2 Inv-loop μ-loop
 returns-2 c =
-    let t : _ = turn-is (c .before .before .before .before .before .before .before .before .before .loop .plan) (c .before .before .before .before .before .before .before .before .before .loop .steps) (c .before .before .before .before .before .before .before .before .before .loop .count) (c .before .before .before .before .before .before .before .before .before .loop .words) (c .before .before .before .before .before .before .step .last .1 .0) (c .before .before .before .before .before .before .step .result) _ (c .before .before .before .before .before .before .step .ensures .0) (c .before .before .before .before .before .before .step .ensures .1) (omega arith) (c .before .before .before .before .before .before .before .before .before .loop .inv .3) in
+    let t : _ = lent-turn-is (wholePlan (c .before .before .before .before .before .before .before .before .before .before .before .loop .rest) (c .before .before .before .before .before .before .before .before .before .before .before .loop .jobs) (c .before .before .before .before .before .before .before .before .before .before .before .loop .room)) (c .before .before .before .before .before .before .before .before .before .before .before .loop .steps) (c .before .before .before .before .before .before .before .before .before .before .before .loop .count) (c .before .before .before .before .before .before .before .before .before .before .before .loop .words) (c .before .before .before .before .before .before .step-lent .last .1 .1 .1 .0) (c .before .before .before .before .before .before .step-lent .result .answer) (wholePlan (c .before .before .before .before .before .before .step-lent .result .rest) (c .before .before .before .before .before .before .step-lent .last .0) (c .before .before .before .before .before .before .step-lent .last .1 .0)) _ (c .before .before .before .before .before .before .step-lent .ensures) (omega arith) (c .before .before .before .before .before .before .before .before .before .before .before .loop .inv .3) in
     both-of _ _ (c .ended2 .result) _ (rw (c .before .enum-told2 .given .1) at t) (c .ended2 .ensures)
 
 enum-told-3 : tie.Need-enum-told-3 Inv-loop μ-loop
@@ -87,7 +88,7 @@ same-length-3 c = search needs
 
 returns-3 : tie.Need-returns-3 Inv-loop μ-loop
 returns-3 c =
-    let t : _ = turn-is (c .before .before .before .before .before .before .before .before .before .loop .plan) (c .before .before .before .before .before .before .before .before .before .loop .steps) (c .before .before .before .before .before .before .before .before .before .loop .count) (c .before .before .before .before .before .before .before .before .before .loop .words) (c .before .before .before .before .before .before .step .last .1 .0) (c .before .before .before .before .before .before .step .result) _ (c .before .before .before .before .before .before .step .ensures .0) (c .before .before .before .before .before .before .step .ensures .1) (omega arith) (c .before .before .before .before .before .before .before .before .before .loop .inv .3) in
+    let t : _ = lent-turn-is (wholePlan (c .before .before .before .before .before .before .before .before .before .before .before .loop .rest) (c .before .before .before .before .before .before .before .before .before .before .before .loop .jobs) (c .before .before .before .before .before .before .before .before .before .before .before .loop .room)) (c .before .before .before .before .before .before .before .before .before .before .before .loop .steps) (c .before .before .before .before .before .before .before .before .before .before .before .loop .count) (c .before .before .before .before .before .before .before .before .before .before .before .loop .words) (c .before .before .before .before .before .before .step-lent .last .1 .1 .1 .0) (c .before .before .before .before .before .before .step-lent .result .answer) (wholePlan (c .before .before .before .before .before .before .step-lent .result .rest) (c .before .before .before .before .before .before .step-lent .last .0) (c .before .before .before .before .before .before .step-lent .last .1 .0)) _ (c .before .before .before .before .before .before .step-lent .ensures) (omega arith) (c .before .before .before .before .before .before .before .before .before .before .before .loop .inv .3) in
     both-of _ _ (c .ended3 .result) _ (rw (c .before .enum-told3 .given .1) at t) (c .ended3 .ensures)
 
 add-steps : tie.Need-add-steps Inv-loop μ-loop
@@ -99,8 +100,8 @@ loop-less c = search needs
 loop-again : tie.Need-loop-again Inv-loop μ-loop
 loop-again c =
     let l : _ = c .before .before .before .before .before .before .words .given in
-    let t : _ = turn-on (c .before .before .before .before .before .before .before .before .before .before .loop .plan) (c .before .before .before .before .before .before .before .before .before .before .loop .steps) (c .before .before .before .before .before .before .before .before .before .before .loop .count) (c .before .before .before .before .before .before .before .before .before .before .loop .words) (c .before .before .before .before .before .before .before .step .last .1 .0) (c .before .before .before .before .before .before .before .step .result) _ (c .before .before .before .before .before .before .before .step .ensures .0) (c .before .before .before .before .before .before .before .step .ensures .1) (omega arith) (c .before .before .before .before .before .before .before .before .before .before .loop .inv .3) _ (c .lesser .result) (c .before .before .answer .given .1) (c .lesser .ensures) (l .1) (omega arith) in
-    (omega arith, t .0, l .1 ∙ c .before .before .before .before .before .before .before .before .before .before .loop .inv .2, t .1)
+    let t : _ = lent-turn-on (wholePlan (c .before .before .before .before .before .before .before .before .before .before .before .before .loop .rest) (c .before .before .before .before .before .before .before .before .before .before .before .before .loop .jobs) (c .before .before .before .before .before .before .before .before .before .before .before .before .loop .room)) (c .before .before .before .before .before .before .before .before .before .before .before .before .loop .steps) (c .before .before .before .before .before .before .before .before .before .before .before .before .loop .count) (c .before .before .before .before .before .before .before .before .before .before .before .before .loop .words) (c .before .before .before .before .before .before .before .step-lent .last .1 .1 .1 .0) (c .before .before .before .before .before .before .before .step-lent .result .answer) (wholePlan (c .before .before .before .before .before .before .before .step-lent .result .rest) (c .before .before .before .before .before .before .before .step-lent .last .0) (c .before .before .before .before .before .before .before .step-lent .last .1 .0)) _ (c .before .before .before .before .before .before .before .step-lent .ensures) (omega arith) (c .before .before .before .before .before .before .before .before .before .before .before .before .loop .inv .3) _ (c .lesser .result) (c .before .before .answer .given .1) (c .lesser .ensures) (l .1) (omega arith) in
+    (omega arith, t .0, l .1 ∙ c .before .before .before .before .before .before .before .before .before .before .before .before .loop .inv .2, t .1)
 
 ended-requires-4 : tie.Need-ended-requires-4 Inv-loop μ-loop
 ended-requires-4 c κs = search needs
@@ -110,7 +111,7 @@ same-length-4 c = search needs
 
 returns-4 : tie.Need-returns-4 Inv-loop μ-loop
 unfolding runTo
-returns-4 c = both-of _ _ (c .ended4 .result) _ (sym (turns-over (c .before .before .loop .plan) (c .before .before .loop .steps) (c .before .before .loop .count) (c .before .before .loop .words) (omega arith)) ∙ c .before .before .loop .inv .3) (c .ended4 .ensures)
+returns-4 c = both-of _ _ (c .ended4 .result) _ (sym (turns-over (wholePlan (c .before .before .loop .rest) (c .before .before .loop .jobs) (c .before .before .loop .room)) (c .before .before .loop .steps) (c .before .before .loop .count) (c .before .before .loop .words) (omega arith)) ∙ c .before .before .loop .inv .3) (c .ended4 .ensures)
 
 pub run-spec : {M : Type 1} → statement M
 run-spec =
@@ -121,11 +122,11 @@ run-spec =
     loop-holds
     mul-at
     add-at
-    mul-step
-    sub-step
-    part-step-start
-    part-step-end
-    step-requires
+    mul-step-lent
+    sub-step-lent
+    part-step-lent-start
+    part-step-lent-end
+    step-lent-requires
     enum-known-answer
     lesser-requires
     add-count

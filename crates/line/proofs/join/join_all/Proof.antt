@@ -4,13 +4,14 @@ use Prim.Native.Nat.{_≤_, _-_}
 use native.Mathlib.Omega.{arith}
 use lib.ListN.{length, take}
 use borrow.Author.Needs.{needs}
+use Rattle.rows.specs.Job.{jobsOf}
 use Rattle.line.specs.Turns.{joined-none, joined-next, joined-done}
 use Rattle.line.specs.Line.{joinedAll}
 use Rattle.line.proofs.join.join_all.Statement.{statement}
 use Rattle.line.proofs.join.join_all.Tie as tie
 
 abbrev Inv-loop : tie.InvT-loop
-Inv-loop clock jobs count by ids n after₀ i₀ after i = (i ≤ n) × (n ≤ 128) × (length ids ≡ 128) × (after ≡ joinedAll clock jobs by after₀ (take i ids))
+Inv-loop clock jobs count by ids n after₀ i₀ after i = (i ≤ n) × (n ≤ 128) × (length ids ≡ 128) × (after ≡ joinedAll clock (jobsOf jobs) by after₀ (take i ids))
 
 abbrev μ-loop : tie.MeasureT-loop
 μ-loop clock jobs count by ids n after₀ i₀ after i = n - i
@@ -30,8 +31,8 @@ array-read-v c = search needs
 wide-id-requires : tie.Need-wide-id-requires Inv-loop μ-loop
 wide-id-requires c κs = search needs
 
-job-at-requires : tie.Need-job-at-requires Inv-loop μ-loop
-job-at-requires c κs = search needs
+read-job-requires : tie.Need-read-job-requires Inv-loop μ-loop
+read-job-requires c κs = search needs
 
 join-requires : tie.Need-join-requires Inv-loop μ-loop
 join-requires c κs = search needs
@@ -45,7 +46,7 @@ loop-less c = omega arith
 loop-again : tie.Need-loop-again Inv-loop μ-loop
 loop-again c =
     let z : length (c .before .before .before .before .before .before .args .t4) ≡ 128 = c .before .before .before .before .loop .inv .2 in
-    (omega arith, omega arith, z, c .join .ensures ∙ rw (c .before .job-at .ensures, c .before .before .wide-id .ensures) (joined-next _ _ _ _ (c .before .before .before .before .before .before .args .t4) _ (c .before .before .before .before .loop .i) (omega arith) (c .before .before .before .before .loop .inv .3)))
+    (omega arith, omega arith, z, c .join .ensures ∙ rw (c .before .read-job .ensures, c .before .before .wide-id .ensures) (joined-next _ _ _ _ (c .before .before .before .before .before .before .args .t4) _ (c .before .before .before .before .loop .i) (omega arith) (c .before .before .before .before .loop .inv .3)))
 
 returns : tie.Need-returns Inv-loop μ-loop
 returns c = joined-done _ _ _ _ (c .before .before .before .args .t4) _ (c .before .loop .i) (c .before .before .before .args .count) (omega arith) (c .before .loop .inv .2) (c .before .loop .inv .3)
@@ -61,7 +62,7 @@ join-all-spec =
     mul-v
     array-read-v
     wide-id-requires
-    job-at-requires
+    read-job-requires
     join-requires
     add-i
     loop-less

@@ -6,13 +6,14 @@ use native.Mathlib.Omega.{arith}
 use lib.ListN.{getD}
 use borrow.Author.Needs.{needs}
 use Rattle.eligible.specs.Turns.{Kept}
+use Rattle.rows.specs.Job.{jobsOf}
 use Rattle.line.specs.Turns.{waiting-none, waiting-take, waiting-skip, waiting-size, waiting-done}
 use Rattle.line.specs.Keep.{waitsAt, stillWaiting}
 use Rattle.line.proofs.keep.keep_waiting.Statement.{statement}
 use Rattle.line.proofs.keep.keep_waiting.Tie as tie
 
 abbrev Inv-loop : tie.InvT-loop
-Inv-loop jobs n queue m ids₀ k₀ i₀ ids k i = (i ≤ m) × (m ≤ 128) × (k ≤ i) × Kept ids k (stillWaiting jobs queue i)
+Inv-loop jobs n queue m ids₀ k₀ i₀ ids k i = (i ≤ m) × (m ≤ 128) × (k ≤ i) × Kept ids k (stillWaiting (jobsOf jobs) queue i)
 
 abbrev μ-loop : tie.MeasureT-loop
 μ-loop jobs n queue m ids₀ k₀ i₀ ids k i = m - i
@@ -35,8 +36,8 @@ array-read-x c = search needs
 wide-id-requires : tie.Need-wide-id-requires Inv-loop μ-loop
 wide-id-requires c κs = search needs
 
-job-at-requires : tie.Need-job-at-requires Inv-loop μ-loop
-job-at-requires c κs = search needs
+read-job-requires : tie.Need-read-job-requires Inv-loop μ-loop
+read-job-requires c κs = search needs
 
 is-waiting-requires : tie.Need-is-waiting-requires Inv-loop μ-loop
 is-waiting-requires c κs = search needs
@@ -58,13 +59,13 @@ loop-less c = omega arith
 
 loop-again : tie.Need-loop-again Inv-loop μ-loop
 loop-again c =
-    let t : c .before .is-waiting .result ≡ waitsAt (c .before .before .before .before .before .before .before .before .args .jobs) (getD (c .before .before .before .before .before .before .before .before .args .t2) (c .before .before .before .before .before .loop .i) 0) = c .before .is-waiting .ensures ∙ rw (c .before .before .job-at .ensures, c .before .before .before .wide-id .ensures) in
-    let f : Kept (c .if1 .ids) (c .if1 .k) (stillWaiting (c .before .before .before .before .before .before .before .before .args .jobs) (c .before .before .before .before .before .before .before .before .args .t2) (c .before .before .before .before .before .loop .i + 1)) =
+    let t : c .before .is-waiting .result ≡ waitsAt (jobsOf (c .before .before .before .before .before .before .before .before .args .jobs .now)) (getD (c .before .before .before .before .before .before .before .before .args .t2) (c .before .before .before .before .before .loop .i) 0) = c .before .is-waiting .ensures ∙ rw (c .before .before .read-job .ensures, c .before .before .before .wide-id .ensures) in
+    let f : Kept (c .if1 .ids) (c .if1 .k) (stillWaiting (jobsOf (c .before .before .before .before .before .before .before .before .args .jobs .now)) (c .before .before .before .before .before .before .before .before .args .t2) (c .before .before .before .before .before .loop .i + 1)) =
     ⊎-elim
-    (λ w. rw (w .1, w .2) (waiting-take (c .before .before .before .before .before .before .before .before .args .jobs) (c .before .before .before .before .before .before .before .before .args .t2) (c .before .before .before .before .before .loop .i) (omega arith) (omega arith) _ _ (sym t ∙ w .0 .taken) (c .before .before .before .before .before .loop .inv .3)))
-    (λ w. rw (w .1, w .2) (waiting-skip (c .before .before .before .before .before .before .before .before .args .jobs) (c .before .before .before .before .before .before .before .before .args .t2) (c .before .before .before .before .before .loop .i) (omega arith) (omega arith) _ _ (sym t ∙ w .0 .left) (c .before .before .before .before .before .loop .inv .3)))
+    (λ w. rw (w .1, w .2) (waiting-take (jobsOf (c .before .before .before .before .before .before .before .before .args .jobs .now)) (c .before .before .before .before .before .before .before .before .args .t2) (c .before .before .before .before .before .loop .i) (omega arith) (omega arith) _ _ (sym t ∙ w .0 .taken) (c .before .before .before .before .before .loop .inv .3)))
+    (λ w. rw (w .1, w .2) (waiting-skip (jobsOf (c .before .before .before .before .before .before .before .before .args .jobs .now)) (c .before .before .before .before .before .before .before .before .args .t2) (c .before .before .before .before .before .loop .i) (omega arith) (omega arith) _ _ (sym t ∙ w .0 .left) (c .before .before .before .before .before .loop .inv .3)))
     (c .if1 .came) in
-    (omega arith, omega arith, waiting-size (c .before .before .before .before .before .before .before .before .args .jobs) (c .before .before .before .before .before .before .before .before .args .t2) _ _ (c .before .before .before .before .before .loop .i + 1) f, f)
+    (omega arith, omega arith, waiting-size (jobsOf (c .before .before .before .before .before .before .before .before .args .jobs .now)) (c .before .before .before .before .before .before .before .before .args .t2) _ _ (c .before .before .before .before .before .loop .i + 1) f, f)
 
 returns : tie.Need-returns Inv-loop μ-loop
 returns c = waiting-done _ (c .before .before .before .before .args .t2) _ _ (c .before .loop .i) (c .before .before .before .before .args .n) (omega arith) (omega arith) (c .before .loop .inv .3)
@@ -81,7 +82,7 @@ keep-waiting-spec =
     mul-x
     array-read-x
     wide-id-requires
-    job-at-requires
+    read-job-requires
     is-waiting-requires
     mul-ids
     array-write-ids

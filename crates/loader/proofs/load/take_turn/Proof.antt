@@ -31,14 +31,14 @@ told : (c : tie.After-read-record) → c .read-record .result ≡ recordRead (dr
 told c = rw (rest (now (c .before .before .before .args .trace)) (c .before .before .before .args .at)) at (c .read-record .ensures)
 
 add-follow : tie.Need-add-follow
-add-follow c = let i = read-inside (now (c .before .before .before .before .before .before .args .trace)) (c .before .before .before .before .before .before .args .at) (c .before .before .before .before .before .before .pre) in record { fits = omega (arith, rw (← told (c .before .before .before)) at (i .1)) }
+add-follow c = let i = read-inside (now (c .before .before .before .before .before .before .before .before .args .trace)) (c .before .before .before .before .before .before .before .before .args .at) (c .before .before .before .before .before .before .before .before .pre) in record { fits = omega (arith, rw (← told (c .before .before .before .before .before)) at (i .1)) }
 
 follow-requires : tie.Need-follow-requires
 follow-requires c κs = search needs
 
 returns : tie.Need-returns
 unfolding turn
-returns c = rw (← told (c .before .before .before .before), ← c .before .before .before .is-accepted .ensures, c .before .before .if1 .taken) (c .follow .ensures)
+returns c = rw (← told (c .before .before .before .before .before .before), ← c .before .before .before .before .before .is-accepted .ensures, c .before .before .before .before .if1 .taken) (c .follow .ensures)
 
 shift-requires : tie.Need-shift-requires
 shift-requires c κs = let i = read-inside (now (c .before .before .before .before .before .args .trace)) (c .before .before .before .before .before .args .at) (c .before .before .before .before .before .pre) in omega (arith, rw (← told (c .before .before)) at (i .0))
@@ -48,7 +48,7 @@ turn-over-requires c κs = search needs
 
 returns-2 : tie.Need-returns-2
 unfolding turn
-returns-2 c = rw (← told (c .before .before .before .before), ← c .before .before .before .is-accepted .ensures, c .before .before .if1 .left, ← c .before .shift .ensures) (c .turn-over .ensures)
+returns-2 c = rw (← told (c .before .before .before .before), ← c .before .before .before .is-accepted .ensures, c .before .before .if1 .left, ← c .before .shift .ensures, c .turn-over .ensures)
 
 pub take-turn-spec : {M : Type 1} → statement M
 take-turn-spec =

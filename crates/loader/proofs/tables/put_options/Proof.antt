@@ -1,12 +1,12 @@
 -- `loader::tables::put_options` meets its contract.
 use borrow.Author.Needs.{needs}
 use mathlib.Core.Path.{refl}
-use Rattle.loader.specs.Tables.{putOptions, withOptions}
+use Rattle.loader.specs.Tables.{withOptions}
 use Rattle.loader.proofs.tables.put_options.Statement.{statement}
 use Rattle.loader.proofs.tables.put_options.Tie as tie
 
 returns : tie.Need-returns
-unfolding putOptions withOptions
+unfolding withOptions
 returns c = refl
 
 pub put-options-spec : {M : Type 1} → statement M

@@ -2,6 +2,7 @@
 use borrow.Author.Needs.{needs}
 use Rattle.model.specs.Sizes as Sizes
 use Rattle.loader.specs.FaultLaws.{has-room, has-node}
+use Rattle.loader.specs.Tables.{withSetting, putCard, putAsk, putOptions}
 use Rattle.loader.proofs.tables.put_record.Statement.{statement}
 use Rattle.loader.proofs.tables.put_record.Tie as tie
 
@@ -21,7 +22,7 @@ enum-known-r-2 : tie.Need-enum-known-r-2
 enum-known-r-2 c = search needs
 
 put-card-requires : tie.Need-put-card-requires
-put-card-requires c κs = has-node (c .before .before .before .before .args .t .setting .nodes) (c .before .before .before .before .args .t .setting .gpus) (c .before .before .before .before .args .at) (rw (c .before .r2 .given .1) at (c .before .before .before .before .pre))
+put-card-requires c κs = has-node (c .before .before .before .before .before .args .t .setting .nodes) (c .before .before .before .before .before .args .t .setting .gpus) (c .before .before .before .before .before .args .at) (rw (c .before .before .r2 .given .1) at (c .before .before .before .before .before .pre))
 
 enum-known-r-3 : tie.Need-enum-known-r-3
 enum-known-r-3 c = search needs
@@ -45,7 +46,7 @@ enum-known-r-5 : tie.Need-enum-known-r-5
 enum-known-r-5 c = search needs
 
 put-ask-requires : tie.Need-put-ask-requires
-put-ask-requires c κs = has-room (c .before .before .before .before .args .t .setting .jobs) Sizes.jobs (c .before .before .before .before .args .at) (rw (c .before .r5 .given .1) at (c .before .before .before .before .pre))
+put-ask-requires c κs = has-room (c .before .before .before .before .before .args .t .setting .jobs) Sizes.jobs (c .before .before .before .before .before .args .at) (rw (c .before .before .r5 .given .1) at (c .before .before .before .before .before .pre))
 
 enum-known-r-6 : tie.Need-enum-known-r-6
 enum-known-r-6 c = search needs
@@ -57,22 +58,28 @@ returns : tie.Need-returns
 returns c = rw (c .enum-told .given .1)
 
 returns-2 : tie.Need-returns-2
-returns-2 c = rw (c .before .before .before .r .given .1, ← c .before .put-node .ensures) (c .with-setting .ensures)
+unfolding withSetting
+returns-2 c = rw (c .before .before .before .r .given .1, c .with-setting .ensures, c .before .put-node .ensures)
 
 returns-3 : tie.Need-returns-3
-returns-3 c = rw (c .before .before .r2 .given .1) (c .put-card .ensures)
+unfolding putCard
+returns-3 c = rw (c .before .before .before .r2 .given .1, c .put-card .ensures .0, c .put-card .ensures .1)
 
 returns-4 : tie.Need-returns-4
-returns-4 c = rw (c .before .before .before .r3 .given .1, ← c .before .put-limit .ensures) (c .with-setting2 .ensures)
+unfolding withSetting
+returns-4 c = rw (c .before .before .before .r3 .given .1, c .with-setting2 .ensures, c .before .put-limit .ensures)
 
 returns-5 : tie.Need-returns-5
-returns-5 c = rw (c .before .before .before .r4 .given .1, ← c .before .put-profile .ensures) (c .with-setting3 .ensures)
+unfolding withSetting
+returns-5 c = rw (c .before .before .before .r4 .given .1, c .with-setting3 .ensures, c .before .put-profile .ensures)
 
 returns-6 : tie.Need-returns-6
-returns-6 c = rw (c .before .before .r5 .given .1) (c .put-ask .ensures)
+unfolding putAsk
+returns-6 c = rw (c .before .before .before .r5 .given .1, c .put-ask .ensures .0, c .put-ask .ensures .1)
 
 returns-7 : tie.Need-returns-7
-returns-7 c = rw (c .before .before .r6 .given .1) (c .put-options .ensures)
+unfolding putOptions
+returns-7 c = rw (c .before .before .r6 .given .1, c .put-options .ensures)
 
 pub put-record-spec : {M : Type 1} → statement M
 put-record-spec =

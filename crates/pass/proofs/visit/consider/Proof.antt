@@ -11,13 +11,13 @@ place-as-requires : tie.Need-place-as-requires
 place-as-requires c κs = search needs
 
 returns : tie.Need-returns
-returns c = considered-placed _ _ _ _ _ (c .before .before .allocation .ensures) _ _ (c .before .if1 .taken) (c .place-as .ensures)
+returns c = considered-placed _ _ _ _ _ (c .before .before .before .allocation .ensures) _ _ (c .before .before .if1 .taken) (c .place-as .ensures)
 
 preempt-for-requires : tie.Need-preempt-for-requires
 preempt-for-requires c κs = search needs
 
 returns-2 : tie.Need-returns-2
-returns-2 c = considered-whole _ _ _ _ _ (c .before .before .before .before .before .allocation .ensures) _ _ (c .before .before .before .before .if1 .left) (c .before .if2 .taken) (c .preempt-for .ensures)
+returns-2 c = considered-whole _ _ _ _ _ (c .before .before .before .before .before .before .allocation .ensures) _ _ (c .before .before .before .before .before .if1 .left) (c .before .before .if2 .taken) (c .preempt-for .ensures)
 
 returns-3 : tie.Need-returns-3
 returns-3 c = considered-mig _ _ _ _ _ (c .before .before .before .before .allocation .ensures) _ (c .before .before .before .if1 .left) (c .if2 .left)

@@ -10,8 +10,8 @@ wide-id-requires c κs = search needs
 place-requires : tie.Need-place-requires
 place-requires c κs = search needs
 
-put-job-requires : tie.Need-put-job-requires
-put-job-requires c κs = search needs
+write-job-requires : tie.Need-write-job-requires
+write-job-requires c κs = search needs
 
 put-placing-requires : tie.Need-put-placing-requires
 put-placing-requires c κs = search needs
@@ -21,7 +21,7 @@ onward-requires c κs = search needs
 
 returns : tie.Need-returns
 unfolding placedAs
-returns c = rw (c .onward .ensures, c .before .put-placing .ensures, c .before .before .put-job .ensures, c .before .before .before .place .ensures, c .before .before .before .before .wide-id .ensures)
+returns c = rw (c .onward .ensures, c .before .put-placing .ensures, c .before .before .write-job .ensures, c .before .before .before .place .ensures, c .before .before .before .before .wide-id .ensures)
 
 pub place-as-spec : {M : Type 1} → statement M
 place-as-spec =
@@ -29,7 +29,7 @@ place-as-spec =
     (tie.spec
     wide-id-requires
     place-requires
-    put-job-requires
+    write-job-requires
     put-placing-requires
     onward-requires
     returns)

@@ -1,6 +1,7 @@
 -- `pass::visit::preempt_for` meets its contract.
+use mathlib.Core.Path.{refl}
 use borrow.Author.Needs.{needs}
-use Rattle.pass.specs.Visit.{preempting-none, preempting-some}
+use Rattle.pass.specs.Visit.{preempting-nobody, preempting-way}
 use Rattle.pass.proofs.visit.preempt_for.Statement.{statement}
 use Rattle.pass.proofs.visit.preempt_for.Tie as tie
 
@@ -8,7 +9,7 @@ preempt-requires : tie.Need-preempt-requires
 preempt-requires c κs = search needs
 
 returns : tie.Need-returns
-returns c = preempting-none _ _ _ _ _ _ (c .before .before .preempt .ensures) (c .if1 .taken)
+returns c = preempting-nobody _ _ _ _ _ _ (c .before .before .preempt .ensures) _ (c .if1 .taken) refl
 
 make-way-requires : tie.Need-make-way-requires
 make-way-requires c κs = search needs
@@ -17,7 +18,7 @@ settle-requires : tie.Need-settle-requires
 settle-requires c κs = search needs
 
 returns-2 : tie.Need-returns-2
-returns-2 c = preempting-some _ _ _ _ _ _ (c .before .before .before .before .preempt .ensures) _ _ (c .before .before .if1 .left) (c .before .make-way .ensures) (c .settle .ensures)
+returns-2 c = preempting-way _ _ _ _ _ _ (c .before .before .before .before .before .before .preempt .ensures) _ _ _ (c .before .before .before .before .if1 .left) (c .before .before .make-way .ensures) (c .settle .ensures)
 
 pub preempt-for-spec : {M : Type 1} → statement M
 preempt-for-spec =

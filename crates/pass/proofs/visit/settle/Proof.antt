@@ -11,7 +11,7 @@ place-as-requires : tie.Need-place-as-requires
 place-as-requires c κs = search needs
 
 returns : tie.Need-returns
-returns c = settled-placed _ _ _ _ _ (c .before .before .allocation .ensures) _ (c .before .if1 .taken) (c .place-as .ensures)
+returns c = settled-placed _ _ _ _ _ (c .before .before .before .allocation .ensures) _ (c .before .before .if1 .taken) (c .place-as .ensures)
 
 returns-2 : tie.Need-returns-2
 returns-2 c = settled-not _ _ _ _ _ (c .before .allocation .ensures) (c .if1 .left)

@@ -8,8 +8,8 @@ use Rattle.pass.proofs.visit.visit.Tie as tie
 wide-id-requires : tie.Need-wide-id-requires
 wide-id-requires c κs = search needs
 
-job-at-requires : tie.Need-job-at-requires
-job-at-requires c κs = search needs
+read-job-requires : tie.Need-read-job-requires
+read-job-requires c κs = search needs
 
 is-waiting-requires : tie.Need-is-waiting-requires
 is-waiting-requires c κs = search needs
@@ -18,23 +18,23 @@ is-among-requires : tie.Need-is-among-requires
 is-among-requires c κs = search needs
 
 returns : tie.Need-returns
-returns c = visited-victim _ _ _ _ _ (c .before .before .before .before .job-at .ensures ∙ rw (c .before .before .before .before .before .wide-id .ensures)) (sym (c .before .before .before .is-waiting .ensures) ∙ c .before .before .if1 .taken) (sym (c .before .is-among .ensures) ∙ c .if2 .taken)
+returns c = visited-victim _ _ _ _ _ (c .before .before .before .before .read-job .ensures ∙ rw (c .before .before .before .before .before .wide-id .ensures)) (sym (c .before .before .before .is-waiting .ensures) ∙ c .before .before .if1 .taken) (sym (c .before .is-among .ensures) ∙ c .if2 .taken)
 
 consider-requires : tie.Need-consider-requires
 consider-requires c κs = search needs
 
 returns-2 : tie.Need-returns-2
-returns-2 c = visited-waiting _ _ _ _ _ (c .before .before .before .before .before .job-at .ensures ∙ rw (c .before .before .before .before .before .before .wide-id .ensures)) _ (sym (c .before .before .before .before .is-waiting .ensures) ∙ c .before .before .before .if1 .taken) (sym (c .before .before .is-among .ensures) ∙ c .before .if2 .left) (c .consider .ensures)
+returns-2 c = visited-waiting _ _ _ _ _ (c .before .before .before .before .before .before .read-job .ensures ∙ rw (c .before .before .before .before .before .before .before .wide-id .ensures)) _ (sym (c .before .before .before .before .before .is-waiting .ensures) ∙ c .before .before .before .before .if1 .taken) (sym (c .before .before .before .is-among .ensures) ∙ c .before .before .if2 .left) (c .consider .ensures)
 
 returns-3 : tie.Need-returns-3
-returns-3 c = visited-other _ _ _ _ _ (c .before .before .job-at .ensures ∙ rw (c .before .before .before .wide-id .ensures)) (sym (c .before .is-waiting .ensures) ∙ c .if1 .left)
+returns-3 c = visited-other _ _ _ _ _ (c .before .before .read-job .ensures ∙ rw (c .before .before .before .wide-id .ensures)) (sym (c .before .is-waiting .ensures) ∙ c .if1 .left)
 
 pub visit-spec : {M : Type 1} → statement M
 visit-spec =
     tie.close
     (tie.spec
     wide-id-requires
-    job-at-requires
+    read-job-requires
     is-waiting-requires
     is-among-requires
     returns

@@ -1,24 +1,46 @@
 -- `pass::walk::visit_all` meets its contract.
-use mathlib.Core.Path.{_≡_, _∙_}
+use mathlib.Core.Path.{_≡_, sym, _∙_}
 use Prim.Native.Nat.{_≤_, _-_}
 use native.Mathlib.Omega.{arith}
-use borrow.Author.Needs.{needs}
 use Rattle.laws.specs.Loop.{through, through-step, through-end}
+use Rattle.pass.specs.Visit.{wholePass}
 use Rattle.pass.specs.Walk.{visitAt}
+use Rattle.pass.specs.StayLaws.{skip-step}
+use borrow.Author.Needs.{needs}
 use Rattle.pass.proofs.walk.visit_all.Statement.{statement}
 use Rattle.pass.proofs.walk.visit_all.Tie as tie
 
 abbrev Inv-loop : tie.InvT-loop
-Inv-loop setting clock queue m turn₀ i₀ turn i = (i ≤ m) × (m ≤ 128) × (through (visitAt setting clock queue) turn (m - i) i ≡ through (visitAt setting clock queue) turn₀ m 0)
+Inv-loop setting clock jobs₀ queue m work₀ i₀ jobs work i =
+    (i ≤ m) × (m ≤ 128) × (through (visitAt setting clock queue) (wholePass work jobs) (m - i) i ≡ through (visitAt setting clock queue) (wholePass work₀ jobs₀) m 0)
 
 abbrev μ-loop : tie.MeasureT-loop
-μ-loop setting clock queue m turn₀ i₀ turn i = m - i
+μ-loop setting clock jobs₀ queue m work₀ i₀ jobs work i = m - i
 
 lesser-requires : tie.Need-lesser-requires Inv-loop μ-loop
 lesser-requires c κs = search needs
 
 loop-holds : tie.Need-loop-holds Inv-loop μ-loop
 loop-holds c = let e : c .lesser .result - 0 ≡ c .lesser .result = omega arith in (omega arith, omega arith, rw e)
+
+mul-stays : tie.Need-mul-stays Inv-loop μ-loop
+mul-stays c = search needs
+
+array-read-stays : tie.Need-array-read-stays Inv-loop μ-loop
+array-read-stays c = search needs
+
+stays-requires : tie.Need-stays-requires Inv-loop μ-loop
+stays-requires c κs = search needs
+
+add-i : tie.Need-add-i Inv-loop μ-loop
+add-i c = search needs
+
+loop-less : tie.Need-loop-less Inv-loop μ-loop
+loop-less c = omega arith
+
+loop-again : tie.Need-loop-again Inv-loop μ-loop
+loop-again c =
+    (omega arith, omega arith, skip-step (c .before .before .before .before .before .before .before .before .before .args .setting) (c .before .before .before .before .before .before .before .before .before .args .clock) (c .before .before .before .before .before .before .before .before .before .args .turn .line .queue) (wholePass (c .before .before .before .before .before .loop .work) (c .before .before .before .before .before .loop .jobs)) (c .before .before .before .before .before .before .lesser .result) (c .before .before .before .before .before .loop .i) (omega arith) (sym (c .before .stays .ensures) ∙ c .if1 .taken) ∙ c .before .before .before .before .before .loop .inv .2)
 
 mul-visit : tie.Need-mul-visit Inv-loop μ-loop
 mul-visit c = search needs
@@ -29,18 +51,18 @@ array-read-visit c = search needs
 visit-requires : tie.Need-visit-requires Inv-loop μ-loop
 visit-requires c κs = search needs
 
-add-i : tie.Need-add-i Inv-loop μ-loop
-add-i c = search needs
+add-i-2 : tie.Need-add-i-2 Inv-loop μ-loop
+add-i-2 c = search needs
 
-loop-less : tie.Need-loop-less Inv-loop μ-loop
-loop-less c = omega arith
+loop-less-2 : tie.Need-loop-less-2 Inv-loop μ-loop
+loop-less-2 c = omega arith
 
-loop-again : tie.Need-loop-again Inv-loop μ-loop
-loop-again c =
-    (omega arith, omega arith, rw (c .visit .ensures) (through-step (visitAt (c .before .before .before .before .before .before .args .setting) (c .before .before .before .before .before .before .args .clock) (c .before .before .before .before .before .before .args .pass .line .queue)) (c .before .before .loop .turn) (c .before .before .before .lesser .result) (c .before .before .loop .i) (omega arith) ∙ c .before .before .loop .inv .2))
+loop-again-2 : tie.Need-loop-again-2 Inv-loop μ-loop
+loop-again-2 c =
+    (omega arith, omega arith, rw (c .visit .ensures) (through-step (visitAt (c .before .before .before .before .before .before .before .before .before .before .before .args .setting) (c .before .before .before .before .before .before .before .before .before .before .before .args .clock) (c .before .before .before .before .before .before .before .before .before .before .before .args .turn .line .queue)) (wholePass (c .before .before .before .before .before .before .before .loop .work) (c .before .before .before .before .before .before .before .loop .jobs)) (c .before .before .before .before .before .before .before .before .lesser .result) (c .before .before .before .before .before .before .before .loop .i) (omega arith) ∙ c .before .before .before .before .before .before .before .loop .inv .2))
 
 returns : tie.Need-returns Inv-loop μ-loop
-returns c = through-end (visitAt (c .before .before .before .before .before .args .setting) (c .before .before .before .before .before .args .clock) (c .before .before .before .before .before .args .pass .line .queue)) (c .before .loop .turn) (c .before .before .lesser .result) (c .before .loop .i) (omega arith) ∙ c .before .loop .inv .2 ∙ rw (c .before .before .lesser .ensures)
+returns c = through-end (visitAt (c .before .before .before .before .before .args .setting) (c .before .before .before .before .before .args .clock) (c .before .before .before .before .before .args .turn .line .queue)) (wholePass (c .before .loop .work) (c .before .loop .jobs)) (c .before .before .lesser .result) (c .before .loop .i) (omega arith) ∙ c .before .loop .inv .2 ∙ rw (c .before .before .lesser .ensures)
 
 pub visit-all-spec : {M : Type 1} → statement M
 visit-all-spec =
@@ -50,10 +72,16 @@ visit-all-spec =
     μ-loop
     lesser-requires
     loop-holds
-    mul-visit
-    array-read-visit
-    visit-requires
+    mul-stays
+    array-read-stays
+    stays-requires
     add-i
     loop-less
     loop-again
+    mul-visit
+    array-read-visit
+    visit-requires
+    add-i-2
+    loop-less-2
+    loop-again-2
     returns)

@@ -20,7 +20,7 @@ sort-by-requires : tie.Need-sort-by-requires
 sort-by-requires c κs = search needs
 
 returns : tie.Need-returns
-returns c = candidates-sorted _ _ _ (c .before .before .before .before .candidates-by-number .result) _ _ _ (c .before .before .before .before .candidates-by-number .ensures) (c .before .before .priorities .ensures) (c .before .no-numbers .ensures) (c .sort-by .ensures)
+returns c = candidates-sorted _ _ _ (c .before .before .before .before .before .before .candidates-by-number .result) _ _ _ (c .before .before .before .before .before .before .candidates-by-number .ensures) (c .before .before .before .before .priorities .ensures) (c .before .before .before .no-numbers .ensures) (c .sort-by .ensures)
 
 pub candidates-spec : {M : Type 1} → statement M
 candidates-spec =

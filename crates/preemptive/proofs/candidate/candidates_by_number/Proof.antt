@@ -1,21 +1,21 @@
 -- `preemptive::candidate::candidates_by_number` meets its contract.
-use Rattle.preemptive.specs.CandidateSteps.{candidate-is}
+use Rattle.rows.specs.Job.{jobsOf}
 use Rattle.preemptive.specs.Candidate.{candidateAt, candidatesByNumber}
 use Rattle.eligible.specs.Turns.{Kept, kept-none, kept-done, those-turn-take, those-turn-skip, those-size}
 use Rattle.laws.specs.Search.{those}
 use native.Mathlib.Omega.{arith}
 use Prim.Native.Nat.{_-_, _≤_, _+_, min}
 use mathlib.Core.Logic.{⊎-elim}
-use mathlib.Core.Path.{_≡_, refl, _∙_}
+use mathlib.Core.Path.{_≡_, refl, sym, _∙_}
 use borrow.Author.Needs.{needs}
 use Rattle.preemptive.proofs.candidate.candidates_by_number.Statement.{statement}
 use Rattle.preemptive.proofs.candidate.candidates_by_number.Tie as tie
 
 abbrev Inv-loop : tie.InvT-loop
-Inv-loop aware n ask jobs m ids₀ k₀ i₀ ids k i = (i ≤ m) × (m ≤ 128) × (k ≤ i) × Kept ids k (those (candidateAt aware jobs ask) i 0)
+Inv-loop aware jobs n ask m ids₀ k₀ i₀ ids k i = (i ≤ m) × (m ≤ 128) × (k ≤ i) × Kept ids k (those (candidateAt aware (jobsOf jobs) ask) i 0)
 
 abbrev μ-loop : tie.MeasureT-loop
-μ-loop aware n ask jobs m ids₀ k₀ i₀ ids k i = m - i
+μ-loop aware jobs n ask m ids₀ k₀ i₀ ids k i = m - i
 
 lesser-requires : tie.Need-lesser-requires Inv-loop μ-loop
 lesser-requires c κs = search needs
@@ -27,11 +27,8 @@ loop-holds : tie.Need-loop-holds Inv-loop μ-loop
 unfolding those
 loop-holds c = (omega arith, omega arith, omega arith, kept-none _ _ (c .no-ids .ensures) refl)
 
-mul-is-candidate : tie.Need-mul-is-candidate Inv-loop μ-loop
-mul-is-candidate c = search needs
-
-array-copy-out-is-candidate : tie.Need-array-copy-out-is-candidate Inv-loop μ-loop
-array-copy-out-is-candidate c = search needs
+read-job-requires : tie.Need-read-job-requires Inv-loop μ-loop
+read-job-requires c κs = search needs
 
 is-candidate-requires : tie.Need-is-candidate-requires Inv-loop μ-loop
 is-candidate-requires c κs = search needs
@@ -56,9 +53,9 @@ loop-less c = omega arith
 
 loop-again : tie.Need-loop-again Inv-loop μ-loop
 loop-again c =
-    let t : candidateAt (c .before .before .before .before .before .before .before .args .aware) (c .before .before .before .before .before .before .before .args .t2) (c .before .before .before .before .before .before .before .args .ask) (c .before .before .before .before .loop .i) ≡ c .before .is-candidate .result =
-    candidate-is (c .before .before .before .before .before .before .before .args .aware) (c .before .before .before .before .before .before .before .args .t2) (c .before .before .before .before .before .before .before .args .ask) (c .before .before .before .before .loop .i) _ _ (omega arith) (c .before .is-candidate .ensures) in
-    let f : Kept (c .if1 .ids) (c .if1 .k) (those (candidateAt (c .before .before .before .before .before .before .before .args .aware) (c .before .before .before .before .before .before .before .args .t2) (c .before .before .before .before .before .before .before .args .ask)) (c .before .before .before .before .loop .i + 1) 0) =
+    let t : candidateAt (c .before .before .before .before .before .before .before .args .aware) (jobsOf (c .before .before .before .before .before .before .before .args .jobs .now)) (c .before .before .before .before .before .before .before .args .ask) (c .before .before .before .before .loop .i) ≡ c .before .is-candidate .result =
+    rw (← c .before .before .read-job .ensures) (sym (c .before .is-candidate .ensures)) in
+    let f : Kept (c .if1 .ids) (c .if1 .k) (those (candidateAt (c .before .before .before .before .before .before .before .args .aware) (jobsOf (c .before .before .before .before .before .before .before .args .jobs .now)) (c .before .before .before .before .before .before .before .args .ask)) (c .before .before .before .before .loop .i + 1) 0) =
     ⊎-elim
     (λ w. rw (w .1, w .2) (those-turn-take _ _ _ _ (omega arith) (t ∙ w .0 .taken) (c .before .before .before .before .loop .inv .3)))
     (λ w. rw (w .1, w .2) (those-turn-skip _ _ _ _ (t ∙ w .0 .left) (c .before .before .before .before .loop .inv .3)))
@@ -80,8 +77,7 @@ candidates-by-number-spec =
     lesser-requires
     no-ids-requires
     loop-holds
-    mul-is-candidate
-    array-copy-out-is-candidate
+    read-job-requires
     is-candidate-requires
     cast-ids
     mul-ids

@@ -1,14 +1,14 @@
 -- `starts::begin::begin` meets its contract.
 use borrow.Author.Needs.{needs}
-use Rattle.starts.specs.Begin.{begun}
+use Rattle.starts.specs.Begin.{also-whole, begun}
 use Rattle.starts.proofs.begin.begin.Statement.{statement}
 use Rattle.starts.proofs.begin.begin.Tie as tie
 
 wide-id-requires : tie.Need-wide-id-requires
 wide-id-requires c κs = search needs
 
-job-at-requires : tie.Need-job-at-requires
-job-at-requires c κs = search needs
+read-job-requires : tie.Need-read-job-requires
+read-job-requires c κs = search needs
 
 start-at-requires : tie.Need-start-at-requires
 start-at-requires c κs = search needs
@@ -31,8 +31,8 @@ completion-at-requires c κs = search needs
 queue-event-requires : tie.Need-queue-event-requires
 queue-event-requires c κs = search needs
 
-put-job-requires : tie.Need-put-job-requires
-put-job-requires c κs = search needs
+write-job-requires : tie.Need-write-job-requires
+write-job-requires c κs = search needs
 
 also-requires : tie.Need-also-requires
 also-requires c κs = search needs
@@ -48,14 +48,14 @@ tell-requires c κs = search needs
 
 returns : tie.Need-returns
 unfolding begun
-returns c = rw (c .tell .ensures, c .before .amount .ensures, c .before .before .bits-of .ensures, c .before .before .before .also .ensures, c .before .before .before .before .put-job .ensures, c .before .before .before .before .before .queue-event .ensures, c .before .before .before .before .before .before .completion-at .ensures, c .before .before .before .before .before .before .before .are-permitted .ensures, c .before .before .before .before .before .before .before .before .after-start .ensures, c .before .before .before .before .before .before .before .before .before .start .ensures, c .before .before .before .before .before .before .before .before .before .before .multiplier-of .ensures, c .before .before .before .before .before .before .before .before .before .before .before .start-at .ensures, c .before .before .before .before .before .before .before .before .before .before .before .before .before .job-at .ensures, c .before .before .before .before .before .before .before .before .before .before .before .before .before .before .wide-id .ensures)
+returns c = rw (c .tell .ensures, c .before .amount .ensures, c .before .before .bits-of .ensures, c .before .before .before .also .ensures, also-whole (c .before .before .before .before .before .before .queue-event .result) _ (c .before .before .before .before .before .before .before .before .before .are-permitted .result) _ (c .before .before .before .before .before .before .queue-event .ensures), c .before .before .before .before .write-job .ensures, c .before .before .before .before .before .before .before .before .completion-at .ensures, c .before .before .before .before .before .before .before .before .before .are-permitted .ensures, c .before .before .before .before .before .before .before .before .before .before .after-start .ensures, c .before .before .before .before .before .before .before .before .before .before .before .start .ensures, c .before .before .before .before .before .before .before .before .before .before .before .before .multiplier-of .ensures, c .before .before .before .before .before .before .before .before .before .before .before .before .before .start-at .ensures, c .before .before .before .before .before .before .before .before .before .before .before .before .before .before .before .read-job .ensures, c .before .before .before .before .before .before .before .before .before .before .before .before .before .before .before .before .before .wide-id .ensures)
 
 pub begin-spec : {M : Type 1} → statement M
 begin-spec =
     tie.close
     (tie.spec
     wide-id-requires
-    job-at-requires
+    read-job-requires
     start-at-requires
     multiplier-of-requires
     start-requires
@@ -63,7 +63,7 @@ begin-spec =
     are-permitted-requires
     completion-at-requires
     queue-event-requires
-    put-job-requires
+    write-job-requires
     also-requires
     bits-of-requires
     amount-requires

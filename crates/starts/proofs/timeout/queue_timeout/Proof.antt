@@ -12,7 +12,7 @@ queue-event-requires c κs = search needs
 
 returns : tie.Need-returns
 unfolding timeoutQueued
-returns c = rw (← c .before .before .before .is-timed .ensures, c .before .before .if1 .taken) (c .queue-event .ensures)
+returns c = rw (← c .before .before .before .before .is-timed .ensures, c .before .before .before .if1 .taken) (c .queue-event .ensures)
 
 returns-2 : tie.Need-returns-2
 unfolding timeoutQueued

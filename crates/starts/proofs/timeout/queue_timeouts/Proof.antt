@@ -3,24 +3,26 @@ use borrow.Author.Needs.{needs}
 use native.Mathlib.Omega.{arith}
 use mathlib.Core.Path.{_≡_, refl, sym, _∙_}
 use Prim.Native.Nat.{_≤_, _-_}
-use lib.ListN.{take, drop}
+use lib.ListN.{length, take, drop}
 use Rattle.model.specs.Sizes as Sizes
+use Rattle.rows.specs.Job.{jobsOf}
+use Rattle.room.specs.Ahead.{wholeAhead}
 use Rattle.starts.specs.Turns.{folded, folded-start, folded-turn, folded-done}
 use Rattle.starts.specs.Timeout.{victimQueued, timeouts-folded}
 use Rattle.starts.proofs.timeout.queue_timeouts.Statement.{statement}
 use Rattle.starts.proofs.timeout.queue_timeouts.Tie as tie
 
 abbrev Inv-loop : tie.InvT-loop
-Inv-loop clock jobs count victims n ahead₀ i₀ ahead i = (i ≤ n) × (n ≤ Sizes.jobs) × (folded (victimQueued clock jobs) ahead (drop i (take n victims)) ≡ folded (victimQueued clock jobs) ahead₀ (take count victims))
+Inv-loop room₀ clock jobs count victims n ahead₀ i₀ room ahead i = (i ≤ n) × (n ≤ Sizes.jobs) × (n ≤ length victims) × (folded (victimQueued clock (jobsOf jobs)) (wholeAhead ahead room) (drop i (take n victims)) ≡ folded (victimQueued clock (jobsOf jobs)) (wholeAhead ahead₀ room₀) (take count victims))
 
 abbrev μ-loop : tie.MeasureT-loop
-μ-loop clock jobs count victims n ahead₀ i₀ ahead i = n - i
+μ-loop room₀ clock jobs count victims n ahead₀ i₀ room ahead i = n - i
 
 lesser-requires : tie.Need-lesser-requires Inv-loop μ-loop
 lesser-requires c κs = search needs
 
 loop-holds : tie.Need-loop-holds Inv-loop μ-loop
-loop-holds c = (omega arith, omega arith, folded-start (victimQueued (c .before .args .clock) (c .before .args .jobs)) (c .before .args .a) (c .before .args .t4) (c .before .args .count) (c .lesser .result) Sizes.jobs (c .lesser .ensures) (omega arith))
+loop-holds c = (omega arith, omega arith, omega arith, folded-start (victimQueued (c .before .args .clock) (jobsOf (c .before .args .jobs .now))) (wholeAhead (c .before .args .a) (c .before .args .room .now)) (c .before .args .t5) (c .before .args .count) (c .lesser .result) Sizes.jobs (c .lesser .ensures) (omega arith))
 
 mul-v : tie.Need-mul-v Inv-loop μ-loop
 mul-v c = search needs
@@ -31,8 +33,8 @@ array-read-v c = search needs
 wide-id-requires : tie.Need-wide-id-requires Inv-loop μ-loop
 wide-id-requires c κs = search needs
 
-job-at-requires : tie.Need-job-at-requires Inv-loop μ-loop
-job-at-requires c κs = search needs
+read-job-requires : tie.Need-read-job-requires Inv-loop μ-loop
+read-job-requires c κs = search needs
 
 queue-timeout-requires : tie.Need-queue-timeout-requires Inv-loop μ-loop
 queue-timeout-requires c κs = search needs
@@ -44,10 +46,10 @@ loop-less : tie.Need-loop-less Inv-loop μ-loop
 loop-less c = omega arith
 
 loop-again : tie.Need-loop-again Inv-loop μ-loop
-loop-again c = (omega arith, omega arith, rw (c .queue-timeout .ensures, c .before .job-at .ensures, c .before .before .wide-id .ensures) (folded-turn (victimQueued (c .before .before .before .before .before .before .args .clock) (c .before .before .before .before .before .before .args .jobs)) (c .before .before .before .before .loop .ahead) (c .before .before .before .before .before .before .args .t4) (c .before .before .before .before .before .lesser .result) (c .before .before .before .before .loop .i) _ _ (omega arith) (omega arith) refl ∙ c .before .before .before .before .loop .inv .2))
+loop-again c = (omega arith, omega arith, c .before .before .before .before .before .loop .inv .2, rw (c .queue-timeout .ensures, c .before .read-job .ensures, c .before .before .wide-id .ensures) (folded-turn (victimQueued (c .before .before .before .before .before .before .before .args .clock) (jobsOf (c .before .before .before .before .before .before .before .args .jobs .now))) (wholeAhead (c .before .before .before .before .before .loop .ahead) (c .before .before .before .before .before .loop .room)) (c .before .before .before .before .before .before .before .args .t5) (c .before .before .before .before .before .before .lesser .result) (c .before .before .before .before .before .loop .i) _ _ (omega arith) (c .before .before .before .before .before .loop .inv .2) refl ∙ c .before .before .before .before .before .loop .inv .3))
 
 returns : tie.Need-returns Inv-loop μ-loop
-returns c = folded-done (victimQueued (c .before .before .before .args .clock) (c .before .before .before .args .jobs)) (c .before .loop .ahead) (c .before .before .before .args .t4) (c .before .before .lesser .result) (c .before .loop .i) (omega arith) (omega arith) ∙ c .before .loop .inv .2 ∙ sym (timeouts-folded (c .before .before .before .args .clock) (c .before .before .before .args .jobs) (c .before .before .before .args .a) (take (c .before .before .before .args .count) (c .before .before .before .args .t4)))
+returns c = folded-done (victimQueued (c .before .before .before .args .clock) (jobsOf (c .before .before .before .args .jobs .now))) (wholeAhead (c .before .loop .ahead) (c .before .loop .room)) (c .before .before .before .args .t5) (c .before .before .lesser .result) (c .before .loop .i) (omega arith) (omega arith) ∙ c .before .loop .inv .3 ∙ sym (timeouts-folded (c .before .before .before .args .clock) (jobsOf (c .before .before .before .args .jobs .now)) (wholeAhead (c .before .before .before .args .a) (c .before .before .before .args .room .now)) (take (c .before .before .before .args .count) (c .before .before .before .args .t5)))
 
 pub queue-timeouts-spec : {M : Type 1} → statement M
 queue-timeouts-spec =
@@ -60,7 +62,7 @@ queue-timeouts-spec =
     mul-v
     array-read-v
     wide-id-requires
-    job-at-requires
+    read-job-requires
     queue-timeout-requires
     add-i
     loop-less

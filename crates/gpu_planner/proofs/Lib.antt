@@ -1,0 +1,2 @@
+-- What the walks of the lent plan share.
+pub mod Machine

@@ -1,0 +1,16 @@
+-- `gpu_planner::load::first_rest` meets its contract.
+use borrow.Author.Needs.{needs}
+use Rattle.gpu_planner.proofs.load.first_rest.Statement.{statement}
+use Rattle.gpu_planner.proofs.load.first_rest.Tie as tie
+
+cast-t4 : tie.Need-cast-t4
+cast-t4 c = search needs
+
+no-totals-requires : tie.Need-no-totals-requires
+no-totals-requires c κs = search needs
+
+returns : tie.Need-returns
+returns c = rw (c .no-totals .ensures)
+
+pub first-rest-spec : {M : Type 1} → statement M
+first-rest-spec = tie.close (tie.spec cast-t4 no-totals-requires returns)

@@ -1,0 +1,51 @@
+-- `rows::gpu::gpu_of` meets its contract.
+use borrow.Author.Needs.{needs}
+use Rattle.rows.specs.Gpu.{gpuOf}
+use Rattle.rows.proofs.gpu.gpu_of.Statement.{statement}
+use Rattle.rows.proofs.gpu.gpu_of.Tie as tie
+
+array-read-byte-of : tie.Need-array-read-byte-of
+array-read-byte-of c = search needs
+
+byte-of-requires : tie.Need-byte-of-requires
+byte-of-requires c κs = search needs
+
+array-read-byte-of-2 : tie.Need-array-read-byte-of-2
+array-read-byte-of-2 c = search needs
+
+byte-of-requires-2 : tie.Need-byte-of-requires-2
+byte-of-requires-2 c κs = search needs
+
+array-read-float-of : tie.Need-array-read-float-of
+array-read-float-of c = search needs
+
+float-of-requires : tie.Need-float-of-requires
+float-of-requires c κs = search needs
+
+array-read-half-of : tie.Need-array-read-half-of
+array-read-half-of c = search needs
+
+half-of-requires : tie.Need-half-of-requires
+half-of-requires c κs = search needs
+
+array-read-t21 : tie.Need-array-read-t21
+array-read-t21 c = search needs
+
+returns : tie.Need-returns
+unfolding gpuOf
+returns c = rw (c .before .before .before .byte-of .ensures, c .before .before .byte-of2 .ensures, c .before .float-of .ensures, c .half-of .ensures)
+
+pub gpu-of-spec : {M : Type 1} → statement M
+gpu-of-spec =
+    tie.close
+    (tie.spec
+    array-read-byte-of
+    byte-of-requires
+    array-read-byte-of-2
+    byte-of-requires-2
+    array-read-float-of
+    float-of-requires
+    array-read-half-of
+    half-of-requires
+    array-read-t21
+    returns)

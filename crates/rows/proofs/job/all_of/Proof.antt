@@ -1,0 +1,68 @@
+-- `rows::job::all_of` meets its contract.
+use borrow.Author.Needs.{needs}
+use Rattle.rows.specs.Job.{jobOf}
+use Rattle.rows.specs.Rows.{read-step, read-end}
+use lib.ListN.{length, take, length-set}
+use native.Mathlib.Omega.{arith}
+use Prim.Native.Nat.{_≤_, _-_}
+use mathlib.Core.List.{map}
+use mathlib.Core.Path.{_≡_, refl}
+use Rattle.rows.proofs.job.all_of.Statement.{statement}
+use Rattle.rows.proofs.job.all_of.Tie as tie
+
+abbrev Inv-loop : tie.InvT-loop
+Inv-loop rows table₀ i₀ table i = (i ≤ 128) × (length table ≡ 128) × (take i table ≡ take i (map jobOf rows))
+
+abbrev μ-loop : tie.MeasureT-loop
+μ-loop rows table₀ i₀ table i = 128 - i
+
+no-job-requires : tie.Need-no-job-requires Inv-loop μ-loop
+no-job-requires c κs = search needs
+
+loop-holds : tie.Need-loop-holds Inv-loop μ-loop
+loop-holds c = (omega arith, refl, refl)
+
+mul-job-of : tie.Need-mul-job-of Inv-loop μ-loop
+mul-job-of c = search needs
+
+shared-slice-copy-out-job-of : tie.Need-shared-slice-copy-out-job-of Inv-loop μ-loop
+shared-slice-copy-out-job-of c = search needs
+
+job-of-requires : tie.Need-job-of-requires Inv-loop μ-loop
+job-of-requires c κs = search needs
+
+mul-table : tie.Need-mul-table Inv-loop μ-loop
+mul-table c = search needs
+
+array-set-from-table : tie.Need-array-set-from-table Inv-loop μ-loop
+array-set-from-table c = search needs
+
+add-i : tie.Need-add-i Inv-loop μ-loop
+add-i c = search needs
+
+loop-less : tie.Need-loop-less Inv-loop μ-loop
+loop-less c = omega arith
+
+loop-again : tie.Need-loop-again Inv-loop μ-loop
+loop-again c = (omega arith, simp length-set (omega arith), read-step jobOf (c .before .before .before .before .before .args .rows .now) (c .before .before .before .loop .table) (c .before .before .before .loop .i) _ (c .job-of .result) (omega arith) (omega arith) (c .job-of .ensures) (c .before .before .before .loop .inv .2))
+
+returns : tie.Need-returns Inv-loop μ-loop
+returns c = read-end jobOf (c .before .before .before .args .rows .now) (c .before .loop .table) (c .before .loop .i) (omega arith) (omega arith) (c .before .loop .inv .2)
+
+pub all-of-spec : {M : Type 1} → statement M
+all-of-spec =
+    tie.close
+    (tie.spec
+    Inv-loop
+    μ-loop
+    no-job-requires
+    loop-holds
+    mul-job-of
+    shared-slice-copy-out-job-of
+    job-of-requires
+    mul-table
+    array-set-from-table
+    add-i
+    loop-less
+    loop-again
+    returns)

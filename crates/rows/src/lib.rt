@@ -1,0 +1,6 @@
+// The tables of GPUs as loaded, of jobs and of events as rows of numbers: lent, and changed in place.
+
+pub mod event;
+pub mod gpu;
+pub mod job;
+pub mod number;
