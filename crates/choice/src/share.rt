@@ -16,8 +16,8 @@ ghost use Rattle.fit.specs.First.{took};
 ghost use Rattle.choice.specs.Share.{holds, parted, share};
 
 // The first key that is counted at least per times; 257 for none.
-fn first_holding(counts: [u16; KEYS], per: usize) -> u16
-    ensures { λ r. ⌜ r ≡ first (holds counts per) 257 0 ⌝ }
+fn first_holding(counts: &[u16; KEYS], per: usize) -> u16
+    ensures { λ r. ⌜ r ≡ first (holds (now (counts .entry)) per) 257 0 ⌝ }
 {
     let mut i: usize = 0;
     while i < KEYS {
@@ -33,7 +33,8 @@ fn first_holding(counts: [u16; KEYS], per: usize) -> u16
 pub fn node_share(here: Chosen, groups: [u16; GPUS], per: usize) -> Choice
     ensures { λ r. ⌜ r ≡ took (share groups per (listOf here)) (parted groups per (listOf here)) ⌝ }
 {
-    let key = first_holding(tally(here, groups), per);
+    let counts = tally(here, groups);
+    let key = first_holding(&counts, per);
     if key < 257 {
         return take_these(first_of(with_key(here, groups, key), per), false);
     }

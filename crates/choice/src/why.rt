@@ -48,7 +48,7 @@ fn count_nodes(e: Chosen, nodes: [u16; GPUS], per: usize) -> usize
     let mut k: usize = 0;
     let mut i: usize = 0;
     while i < NODES {
-        if per <= counted_at(counts, i) {
+        if per <= counted_at(&counts, i) {
             k = k + 1;
         }
         i = i + 1;

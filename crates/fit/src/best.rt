@@ -21,8 +21,8 @@ ghost use Rattle.fit.specs.First.{took};
 ghost use Rattle.fit.specs.Best.{leftOver, bestNode, rank, rankKeys, fullestFirst, bestFit};
 
 // What the job leaves over on the node k; 129 where the node does not hold it.
-fn left_over(counts: [u16; KEYS], count: usize, k: usize) -> usize
-    ensures { λ r. ⌜ r ≡ leftOver counts count k ⌝ }
+fn left_over(counts: &[u16; KEYS], count: usize, k: usize) -> usize
+    ensures { λ r. ⌜ r ≡ leftOver (now (counts .entry)) count k ⌝ }
 {
     let n = counted_at(counts, k);
     if count <= n {
@@ -32,8 +32,8 @@ fn left_over(counts: [u16; KEYS], count: usize, k: usize) -> usize
 }
 
 // The node with least left over, the lowest number on a tie.
-pub fn best_node(counts: [u16; KEYS], count: usize) -> u16
-    ensures { λ r. ⌜ r ≡ bestNode counts count ⌝ }
+pub fn best_node(counts: &[u16; KEYS], count: usize) -> u16
+    ensures { λ r. ⌜ r ≡ bestNode (now (counts .entry)) count ⌝ }
 {
     let mut b: usize = 0;
     let mut i: usize = 0;
@@ -60,8 +60,8 @@ fn no_keys() -> [u64; GPUS]
 }
 
 // The rank of a node by its count.
-fn rank_of(counts: [u16; KEYS], k: u16) -> u64
-    ensures { λ r. ⌜ r ≡ rank counts k ⌝ }
+fn rank_of(counts: &[u16; KEYS], k: u16) -> u64
+    ensures { λ r. ⌜ r ≡ rank (now (counts .entry)) k ⌝ }
 {
     let n = counted_at(counts, k as usize);
     if n < GPUS {
@@ -71,8 +71,8 @@ fn rank_of(counts: [u16; KEYS], k: u16) -> u64
 }
 
 // The rank of each GPU's node by its count: the more, the lower.
-fn rank_keys(counts: [u16; KEYS], nodes: [u16; GPUS]) -> [u64; GPUS]
-    ensures { λ r. ⌜ r ≡ rankKeys counts nodes ⌝ }
+fn rank_keys(counts: &[u16; KEYS], nodes: [u16; GPUS]) -> [u64; GPUS]
+    ensures { λ r. ⌜ r ≡ rankKeys (now (counts .entry)) nodes ⌝ }
 {
     let mut keys = no_keys();
     let mut i: usize = 0;
@@ -101,7 +101,8 @@ fn fullest_first(e: Chosen, nodes: [u16; GPUS], count: usize) -> Chosen
     ensures { λ r. ⌜ r ≡ chosen (take count (fullestFirst nodes (listOf e))) ⌝ }
 {
     let ids = e.ids;
-    let first = rank_keys(tally(e, nodes), nodes);
+    let counts = tally(e, nodes);
+    let first = rank_keys(&counts, nodes);
     let second = wide_keys(nodes);
     let sorted = sort_by(ids, e.count, first, second);
     let all = Chosen {
@@ -115,7 +116,8 @@ fn fullest_first(e: Chosen, nodes: [u16; GPUS], count: usize) -> Chosen
 pub fn best_fit(e: Chosen, nodes: [u16; GPUS], count: usize) -> Choice
     ensures { λ r. ⌜ r ≡ took (bestFit nodes (listOf e) count) false ⌝ }
 {
-    let node = best_node(tally(e, nodes), count);
+    let counts = tally(e, nodes);
+    let node = best_node(&counts, count);
     let same = with_key(e, nodes, node);
     let n = same.count;
     if count <= n {

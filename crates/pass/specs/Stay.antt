@@ -78,13 +78,13 @@ module _ (aware : Bool) (jobs : List Job) (ask : Ask) (owner : ℕ) where
   free-then r h e = rw (ne-eqb owner 0 h) e
 
 module _ (aware : Bool) (sites : List ℕ) (jobs : List Job) (ask : Ask) (g : Gpu) where
-  pub reach-could : eligible ask (siteOf sites g) (withOwner 0 g) ≡ true → mayBeFree aware jobs ask (g .owner) ≡ reachable aware sites jobs ask g
+  pub reach-could : (r : Bool) → mayBeFree aware jobs ask (g .owner) ≡ true → r ≡ eligible ask (siteOf sites g) (withOwner 0 g) → r ≡ reachable aware sites jobs ask g
   unfolding reachable
-  reach-could h = rw h
+  reach-could r h e = e ∙ split (eligible ask (siteOf sites g) (withOwner 0 g)) (λ t. rw (t, h)) (λ t. rw t)
 
-  pub reach-not : eligible ask (siteOf sites g) (withOwner 0 g) ≡ false → false ≡ reachable aware sites jobs ask g
+  pub reach-not : mayBeFree aware jobs ask (g .owner) ≡ false → false ≡ reachable aware sites jobs ask g
   unfolding reachable
-  reach-not h = rw h
+  reach-not h = split (eligible ask (siteOf sites g) (withOwner 0 g)) (λ t. rw (t, h)) (λ t. rw t)
 
 module _ (aware : Bool) (ask : Ask) (j : Job) where
   pub charge-gone : candidate aware ask j ≡ true → 0 ≡ keptCharge aware ask j

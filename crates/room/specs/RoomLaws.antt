@@ -4,7 +4,7 @@ use mathlib.Core.Bool.{Bool, true, false, not}
 use mathlib.Core.List.{List}
 use Prim.Native.Nat.{ℕ}
 use Rattle.model.specs.declared.event.Event.{Event}
-use Rattle.room.specs.Room.{used, eventAt, freeAt}
+use Rattle.room.specs.Room.{used, ahead, eventAt, aheadAt, freeAt}
 
 -- an entry is free exactly if it holds no event
 pub free-not : (events : List Event) (i : ℕ) → used (eventAt events i) ≡ true → freeAt events i ≡ false
@@ -12,3 +12,8 @@ free-not events i e = rw e
 
 pub free-is : (events : List Event) (i : ℕ) → used (eventAt events i) ≡ false → freeAt events i ≡ true
 free-is events i e = rw e
+
+-- an empty entry is ahead of none
+pub empty-behind : (events : List Event) (i j : ℕ) → used (eventAt events i) ≡ false → aheadAt events i j ≡ false
+unfolding ahead
+empty-behind events i j e = rw e

@@ -72,7 +72,11 @@ pub fn least_event(room: &[[u64; ENTRY]; EVENTS]) -> usize
     let mut best: usize = 0;
     let mut i: usize = 1;
     while i < EVENTS {
-        best = better(read_event(room, i), read_event(room, best), i, best);
+        let e = read_event(room, i);
+        // most entries are empty, and are told by their kind alone
+        if is_used(e) {
+            best = better(e, read_event(room, best), i, best);
+        }
         i = i + 1;
     }
     best

@@ -1,14 +1,17 @@
 -- `room::least_event` meets its contract.
 use borrow.Author.Needs.{needs}
 use native.Mathlib.Omega.{arith}
-use mathlib.Core.Path.{_≡_, refl}
+use mathlib.Core.Path.{_≡_, refl, sym, _∙_}
+use mathlib.Core.Bool.{false}
+use mathlib.Core.Logic.{⊎-elim}
 use Prim.Native.Nat.{_≤_, _-_}
 use Rattle.laws.specs.Choice.{pick}
 use Rattle.laws.specs.Greatest as Greatest
 use Rattle.laws.specs.Greatest.{best-step, best-end}
 use Rattle.model.specs.Sizes as Sizes
 use Rattle.rows.specs.Event.{eventsOf}
-use Rattle.room.specs.Room.{aheadAt, least}
+use Rattle.room.specs.Room.{used, aheadAt, least}
+use Rattle.room.specs.RoomLaws.{empty-behind}
 use Rattle.room.proofs.least_event.Statement.{statement}
 use Rattle.room.proofs.least_event.Tie as tie
 
@@ -25,6 +28,9 @@ loop-holds c = (omega arith, refl)
 read-event-requires : tie.Need-read-event-requires Inv-loop μ-loop
 read-event-requires c κs = search needs
 
+is-used-requires : tie.Need-is-used-requires Inv-loop μ-loop
+is-used-requires c κs = search needs
+
 read-event-requires-2 : tie.Need-read-event-requires-2 Inv-loop μ-loop
 read-event-requires-2 c κs = search needs
 
@@ -39,8 +45,12 @@ loop-less c = omega arith
 
 loop-again : tie.Need-loop-again Inv-loop μ-loop
 loop-again c =
-    let e : c .better .result ≡ pick (aheadAt (eventsOf (c .before .before .before .before .before .args .room .now)) (c .before .before .before .before .loop .i) (c .before .before .before .before .loop .best)) (c .before .before .before .before .loop .i) (c .before .before .before .before .loop .best) = rw (c .before .before .read-event .ensures, c .before .read-event2 .ensures) at (c .better .ensures) in
-    (omega arith, rw (e, ← best-step (aheadAt (eventsOf (c .before .before .before .before .before .args .room .now))) Sizes.events (c .before .before .before .before .loop .i) (c .before .before .before .before .loop .best) (omega arith)) (c .before .before .before .before .loop .inv .1))
+    let f : c .if1 .best ≡ pick (aheadAt (eventsOf (c .before .before .before .before .before .args .room .now)) (c .before .before .before .before .loop .i) (c .before .before .before .before .loop .best)) (c .before .before .before .before .loop .i) (c .before .before .before .before .loop .best) =
+    ⊎-elim
+    (λ w. w .3 ∙ rw (c .before .before .read-event .ensures, w .1 .ensures) at (w .2 .ensures))
+    (λ w. let u : used (c .before .before .read-event .result) ≡ false = sym (c .before .is-used .ensures) ∙ w .0 .left in rw (empty-behind (eventsOf (c .before .before .before .before .before .args .room .now)) (c .before .before .before .before .loop .i) (c .before .before .before .before .loop .best) (rw (c .before .before .read-event .ensures) at u)) (w .1))
+    (c .if1 .came) in
+    (omega arith, rw (f, ← best-step (aheadAt (eventsOf (c .before .before .before .before .before .args .room .now))) Sizes.events (c .before .before .before .before .loop .i) (c .before .before .before .before .loop .best) (omega arith)) (c .before .before .before .before .loop .inv .1))
 
 returns : tie.Need-returns Inv-loop μ-loop
 returns c = rw (best-end (aheadAt (eventsOf (c .before .before .args .room .now))) Sizes.events (c .before .loop .i) (c .before .loop .best) (omega arith)) at (c .before .loop .inv .1)
@@ -53,6 +63,7 @@ least-event-spec =
     μ-loop
     loop-holds
     read-event-requires
+    is-used-requires
     read-event-requires-2
     better-requires
     add-i

@@ -26,6 +26,9 @@ loop-holds : tie.Need-loop-holds Inv-loop μ-loop
 unfolding those
 loop-holds c = (omega arith, omega arith, refl)
 
+slice-aggregate-counted-at : tie.Need-slice-aggregate-counted-at Inv-loop μ-loop
+slice-aggregate-counted-at c = search needs
+
 counted-at-requires : tie.Need-counted-at-requires Inv-loop μ-loop
 counted-at-requires c κs = search needs
 
@@ -41,8 +44,8 @@ loop-less c = omega arith
 loop-again : tie.Need-loop-again Inv-loop μ-loop
 loop-again c =
     ⊎-elim
-    (λ w. (omega arith, omega arith, w .1 ∙ count-take (holds (c .before .before .before .before .tally .result) (c .before .before .before .before .before .args .per)) (c .before .before .before .loop .i) (c .before .before .before .loop .k) (c .before .before .before .loop .inv .2) (le-leb (c .before .before .before .before .before .args .per) (counted (c .before .before .before .before .tally .result) (c .before .before .before .loop .i)) (omega arith))))
-    (λ w. (omega arith, omega arith, w .1 ∙ count-skip (holds (c .before .before .before .before .tally .result) (c .before .before .before .before .before .args .per)) (c .before .before .before .loop .i) (c .before .before .before .loop .k) (c .before .before .before .loop .inv .2) (lt-leb (c .before .before .before .before .before .args .per) (counted (c .before .before .before .before .tally .result) (c .before .before .before .loop .i)) (omega arith))))
+    (λ w. (omega arith, omega arith, w .1 ∙ count-take (holds (c .before .before .before .before .before .tally .result) (c .before .before .before .before .before .before .args .per)) (c .before .before .before .before .loop .i) (c .before .before .before .before .loop .k) (c .before .before .before .before .loop .inv .2) (le-leb (c .before .before .before .before .before .before .args .per) (counted (c .before .before .before .before .before .tally .result) (c .before .before .before .before .loop .i)) (omega arith))))
+    (λ w. (omega arith, omega arith, w .1 ∙ count-skip (holds (c .before .before .before .before .before .tally .result) (c .before .before .before .before .before .before .args .per)) (c .before .before .before .before .loop .i) (c .before .before .before .before .loop .k) (c .before .before .before .before .loop .inv .2) (lt-leb (c .before .before .before .before .before .before .args .per) (counted (c .before .before .before .before .before .tally .result) (c .before .before .before .before .loop .i)) (omega arith))))
     (c .if1 .came)
 
 returns : tie.Need-returns Inv-loop μ-loop
@@ -58,6 +61,7 @@ count-nodes-spec =
     μ-loop
     tally-requires
     loop-holds
+    slice-aggregate-counted-at
     counted-at-requires
     add-k
     add-i

@@ -25,8 +25,8 @@ first-of-requires c κs = search needs
 
 returns : tie.Need-returns
 returns c =
-    let e : take (c .before .before .before .before .before .before .args .e .count) (c .before .sort-by .result) ≡ fullestFirst (c .before .before .before .before .before .before .args .nodes) (listOf (c .before .before .before .before .before .before .args .e)) =
-    node-by-node (c .before .before .before .before .before .before .args .nodes) (c .before .before .before .before .before .before .args .e .ids) (c .before .before .before .rank-keys .result) (c .before .before .wide-keys .result) (c .before .before .before .before .tally .result) (c .before .sort-by .result) (c .before .before .before .before .before .before .args .e .count) (c .before .before .before .before .tally .ensures) (c .before .before .before .rank-keys .ensures) (c .before .before .wide-keys .ensures) (c .before .sort-by .ensures) in
+    let e : take (c .before .before .before .before .before .before .before .args .e .count) (c .before .sort-by .result) ≡ fullestFirst (c .before .before .before .before .before .before .before .args .nodes) (listOf (c .before .before .before .before .before .before .before .args .e)) =
+    node-by-node (c .before .before .before .before .before .before .before .args .nodes) (c .before .before .before .before .before .before .before .args .e .ids) (c .before .before .before .rank-keys .result) (c .before .before .wide-keys .result) (c .before .before .before .before .before .tally .result) (c .before .sort-by .result) (c .before .before .before .before .before .before .before .args .e .count) (c .before .before .before .before .before .tally .ensures) (c .before .before .before .rank-keys .ensures) (c .before .before .wide-keys .ensures) (c .before .sort-by .ensures) in
     c .first-of .ensures ∙ rw e
 
 pub fullest-first-spec : {M : Type 1} → statement M

@@ -5,20 +5,21 @@ use borrow.Author.Needs.{needs}
 use Rattle.fit.proofs.group.counted_at.Statement.{statement}
 use Rattle.fit.proofs.group.counted_at.Tie as tie
 
-mul-result : tie.Need-mul-result
-mul-result c = search needs
+mul-wide-id : tie.Need-mul-wide-id
+mul-wide-id c = search needs
 
-array-read-result : tie.Need-array-read-result
-array-read-result c = search needs
+shared-slice-read-wide-id : tie.Need-shared-slice-read-wide-id
+shared-slice-read-wide-id c = search needs
 
-cast-result : tie.Need-cast-result
-cast-result c = search needs
+wide-id-requires : tie.Need-wide-id-requires
+wide-id-requires c κs = search needs
 
 returns : tie.Need-returns
 returns c = search needs
 
 returns-2 : tie.Need-returns-2
-returns-2 c = past-read (c .before .args .t1) (c .before .args .k) 0 (omega arith)
+returns-2 c = past-read (c .before .before .args .counts .now) (c .before .before .args .k) 0 (omega arith)
 
 pub counted-at-spec : {M : Type 1} → statement M
-counted-at-spec = tie.close (tie.spec mul-result array-read-result cast-result returns returns-2)
+counted-at-spec =
+    tie.close (tie.spec mul-wide-id shared-slice-read-wide-id wide-id-requires returns returns-2)
