@@ -16,6 +16,7 @@ use Rattle.eligible.specs.Turns as Turns
 use Rattle.eligible.specs.declared.chosen.Chosen.{Chosen}
 use Rattle.fit.specs.declared.first.Choice.{Choice}
 use Rattle.fit.specs.First.{held, took}
+use Rattle.fit.specs.Group.{counted}
 use Rattle.fit.specs.Cases.{take-held}
 use Rattle.choice.specs.Share.{holds, shareGroup, parted, share}
 use Rattle.choice.specs.Gang.{partedOn, shareOn, gangNode, wholeNodes, partedNodes, gangOrder, gangNodes, shares, anyParted, gangChoice}
@@ -72,6 +73,13 @@ module _ (nodes groups l : List ℕ) (per k : ℕ) (here : Chosen) (e : here ≡
   unfolding gangNode
   node-whole s h f =
       rw (le-leb per (countOf nodes l k) (omega (arith, here-count)), f, Turns.held here (withKey nodes k l) e .0)
+
+-- a node of which the tally says fewer is none of them
+pub node-tallied-few : (nodes groups l counts : List ℕ) (per k n : ℕ) (penalised : Bool) → counts ≡ tallyOf nodes l → k < 257 → n ≡ counted counts k → n < per → gangNode nodes groups l per penalised k ≡ false
+unfolding gangNode
+node-tallied-few nodes groups l counts per k n penalised t h e f =
+    let s : counted counts k ≡ countOf nodes l k = rw t (Turns.tally-at nodes l k h) in
+    rw (lt-leb per (countOf nodes l k) (omega arith))
 
 -- the nodes without a penalty and behind them the others, the first g
 pub order-held : (nodes groups l : List ℕ) (per g : ℕ) (whole part both taken : Chosen) → whole ≡ chosen (wholeNodes nodes groups l per) → part ≡ chosen (partedNodes nodes groups l per) → both ≡ chosen (take 128 (listOf whole ++ listOf part)) → taken ≡ chosen (take g (listOf both)) → taken ≡ chosen (gangNodes nodes groups l per g)

@@ -112,18 +112,23 @@ module _ (nodes groups l : List ℕ) (ask : Ask) where
 pub list-length : (e : Chosen) (n : ℕ) → length (e .ids) ≡ 128 → n ≡ min (e .count) 128 → n ≡ length (listOf e)
 list-length e n h m = omega (arith, length-take (e .count) (e .ids))
 
-module _ (gpus : List Gpu) (n : ℕ) (sites : List ℕ) (ask : Ask) (e : Chosen) (nodes : List ℕ) (w : Why) (a : e ≡ chosen (eligibles gpus n sites ask)) (b : nodes ≡ nodeKeys gpus) (d : w ≡ whyNot nodes (listOf e) ask) where
+-- a job that is no gang is judged without looking at the keys
+pub why-any-keys : (nodes keys l : List ℕ) (ask : Ask) → isGang ask ≡ false → whyNot nodes l ask ≡ whyNot keys l ask
+unfolding whyNot
+why-any-keys nodes keys l ask h = rw h
+
+module _ (gpus : List Gpu) (n : ℕ) (sites : List ℕ) (ask : Ask) (e : Chosen) (keys : List ℕ) (w : Why) (a : e ≡ chosen (eligibles gpus n sites ask)) (b : (l : List ℕ) → whyNot keys l ask ≡ whyNot (nodeKeys gpus) l ask) (d : w ≡ whyNot keys (listOf e) ask) where
   -- the cause is found among the eligible GPUs
   pub why-here : w ≡ whyNotHere gpus n sites ask
   unfolding whyNotHere
-  why-here = d ∙ rw (held e (eligibles gpus n sites ask) a .0, b)
+  why-here = d ∙ rw (held e (eligibles gpus n sites ask) a .0) (b (eligibles gpus n sites ask))
 
   -- there is room
-  pub choose-yes : (best y : Bool) (groups : List ℕ) (r : Choice) → y ≡ isEnough w → y ≡ true → groups ≡ groupKeys gpus → r ≡ choiceOf nodes groups (listOf e) ask best → r ≡ choose gpus n sites ask best
+  pub choose-yes : (best y : Bool) (r : Choice) → y ≡ isEnough w → y ≡ true → r ≡ choiceOf (nodeKeys gpus) (groupKeys gpus) (listOf e) ask best → r ≡ choose gpus n sites ask best
   unfolding choose
-  choose-yes best y groups r f t g h =
+  choose-yes best y r f t h =
       let q : isEnough (whyNotHere gpus n sites ask) ≡ true = ap isEnough (sym why-here) ∙ sym f ∙ t in
-      rw q (h ∙ rw (held e (eligibles gpus n sites ask) a .0, b, g))
+      rw q (h ∙ rw (held e (eligibles gpus n sites ask) a .0))
 
   -- there is none
   pub choose-no : (best y : Bool) (r : Choice) → y ≡ isEnough w → y ≡ false → r ≡ noChoice → r ≡ choose gpus n sites ask best

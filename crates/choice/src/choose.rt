@@ -7,6 +7,7 @@ use crate::why::is_enough;
 use crate::why::is_gang;
 use crate::why::why_not;
 use eligible::chosen::Chosen;
+use eligible::chosen::no_ids;
 use eligible::keys::group_keys;
 use eligible::keys::node_keys;
 use eligible::list::eligible_gpus;
@@ -14,12 +15,17 @@ use fit::best::best_fit;
 use fit::first::Choice;
 use fit::first::first_fit;
 use fit::group::group_choice;
-use model::gpu::Gpu;
 use model::job::Ask;
 use model::sizes::GPUS;
 use model::sizes::NODES;
+use rows::gpu::CARD;
 ghost use mathlib.Core.Path.{_≡_};
+ghost use Rattle.rows.specs.Gpu.{gpusOf};
 ghost use Rattle.eligible.specs.Chosen.{listOf};
+ghost use mathlib.Core.List.{List};
+ghost use Prim.Native.Nat.{ℕ};
+ghost use Rattle.eligible.specs.Keys.{nodeKeys, groupKeys};
+ghost use Rattle.choice.specs.Why.{whyNot};
 ghost use Rattle.choice.specs.Choose.{choiceOf, noChoice, whyNotHere, choose};
 
 fn no_choice() -> Choice
@@ -32,42 +38,57 @@ fn no_choice() -> Choice
     }
 }
 
-// The choice among the eligible GPUs e for a job that has room.
-fn choice_of(e: Chosen, nodes: [u16; GPUS], groups: [u16; GPUS], ask: Ask, best: bool) -> Choice
-    ensures { λ r. ⌜ r ≡ choiceOf nodes groups (listOf e) ask best ⌝ }
+// The choice among the eligible GPUs e for a job that has room. Keys are made where they are looked at.
+fn choice_of(e: Chosen, gpus: &[[u64; CARD]; GPUS], ask: Ask, best: bool) -> Choice
+    ensures { λ r. ⌜ r ≡ choiceOf (nodeKeys (gpusOf (now (gpus .entry)))) (groupKeys (gpusOf (now (gpus .entry)))) (listOf e) ask best ⌝ }
 {
     let count = ask.count as usize;
     let g = ask.nodes as usize;
     if is_gang(ask) {
-        return gang_choice(e, nodes, groups, count / g, g);
+        return gang_choice(e, node_keys(gpus), group_keys(gpus), count / g, g);
     }
     if ask.gang {
-        return group_choice(e, groups, count);
+        return group_choice(e, group_keys(gpus), count);
     }
     if ask.network {
-        return group_choice(e, groups, count);
+        return group_choice(e, group_keys(gpus), count);
     }
     if best {
-        return best_fit(e, nodes, count);
+        return best_fit(e, node_keys(gpus), count);
     }
     first_fit(e, count)
 }
 
-// Why the job cannot be placed on the first n GPUs as they are, if it cannot.
-pub fn why_not_here(gpus: [Gpu; GPUS], n: usize, sites: [u8; NODES], ask: Ask) -> Why
-    ensures { λ r. ⌜ r ≡ whyNotHere gpus n sites ask ⌝ }
+// The node of each GPU for a gang; others have no use for them.
+pub fn keys_for(gpus: &[[u64; CARD]; GPUS], ask: Ask) -> [u16; GPUS]
+    ensures { λ r. ⌜ ((l : List ℕ) → whyNot r l ask ≡ whyNot (nodeKeys (gpusOf (now (gpus .entry)))) l ask) ⌝ }
 {
-    why_not(eligible_gpus(gpus, n, sites, ask), node_keys(gpus), ask)
+    if is_gang(ask) {
+        return node_keys(gpus);
+    }
+    no_ids()
+}
+
+// Why the job cannot be placed on the first n GPUs as they are, if it cannot.
+pub fn why_not_here(gpus: &[[u64; CARD]; GPUS], n: usize, sites: [u8; NODES], ask: Ask) -> Why
+    ensures { λ r. ⌜ r ≡ whyNotHere (gpusOf (now (gpus .entry))) n sites ask ⌝ }
+{
+    why_not(eligible_gpus(gpus, n, sites, ask), keys_for(gpus, ask), ask)
 }
 
 // Which of the first n GPUs the job gets; none where it cannot be placed.
-pub fn choose_gpus(gpus: [Gpu; GPUS], n: usize, sites: [u8; NODES], ask: Ask, best: bool) -> Choice
-    ensures { λ r. ⌜ r ≡ choose gpus n sites ask best ⌝ }
+pub fn choose_gpus(
+    gpus: &[[u64; CARD]; GPUS],
+    n: usize,
+    sites: [u8; NODES],
+    ask: Ask,
+    best: bool,
+) -> Choice
+    ensures { λ r. ⌜ r ≡ choose (gpusOf (now (gpus .entry))) n sites ask best ⌝ }
 {
     let e = eligible_gpus(gpus, n, sites, ask);
-    let nodes = node_keys(gpus);
-    if is_enough(why_not(e, nodes, ask)) {
-        return choice_of(e, nodes, group_keys(gpus), ask, best);
+    if is_enough(why_not(e, keys_for(gpus, ask), ask)) {
+        return choice_of(e, gpus, ask, best);
     }
     no_choice()
 }

@@ -5,9 +5,11 @@ use eligible::chosen::Chosen;
 use eligible::chosen::append;
 use eligible::chosen::first_of;
 use eligible::chosen::no_ids;
+use eligible::chosen::tally;
 use eligible::chosen::with_key;
 use fit::first::Choice;
 use fit::first::take_these;
+use fit::group::counted_at;
 use model::sizes::GPUS;
 use model::sizes::NODES;
 use small::either;
@@ -51,14 +53,18 @@ fn those_nodes(
 ) -> Chosen
     ensures { λ r. ⌜ r ≡ chosen (those (gangNode nodes groups (listOf e) per penalised) 32 0) ⌝ }
 {
+    let counts = tally(e, nodes);
     let mut ids = no_ids();
     let mut k: usize = 0;
     let mut i: usize = 0;
     while i < NODES {
         let node = i as u16;
-        if is_gang_node(e, nodes, groups, per, penalised, node) {
-            ids[k] = node;
-            k = k + 1;
+        // most nodes fall out here
+        if per <= counted_at(&counts, i) {
+            if is_gang_node(e, nodes, groups, per, penalised, node) {
+                ids[k] = node;
+                k = k + 1;
+            }
         }
         i = i + 1;
     }

@@ -3,9 +3,15 @@
 use mig::owner::free_gpu;
 use model::gpu::Gpu;
 use model::sizes::GPUS;
+use rows::gpu::CARD;
+use rows::gpu::gpu_places;
+use rows::gpu::may_hold;
+use rows::gpu::read_gpu;
+use rows::gpu::write_gpu;
 use small::lesser;
 use small::wide_id;
 ghost use mathlib.Core.Path.{_≡_};
+ghost use Rattle.rows.specs.Gpu.{gpusOf};
 ghost use mathlib.Core.List.{map};
 ghost use lib.ListN.{take};
 ghost use Rattle.mig.specs.Owner.{freed};
@@ -20,30 +26,27 @@ pub fn with_owner(g: Gpu, owner: u16) -> Gpu
 }
 
 // The owner on each of the GPUs numbered by the first k ids.
-pub fn give_gpus(gpus: [Gpu; GPUS], ids: [u16; GPUS], k: usize, owner: u16) -> [Gpu; GPUS]
-    ensures { λ r. ⌜ r ≡ given owner gpus (take k ids) ⌝ }
+pub fn give_gpus(gpus: &mut [[u64; CARD]; GPUS], ids: [u16; GPUS], k: usize, owner: u16)
+    ensures { λ _. ⌜ gpusOf (now (gpus .exit)) ≡ given owner (gpusOf (now (gpus .entry))) (take k ids) ⌝ }
 {
     let m = lesser(k, GPUS);
-    let mut table = gpus;
     let mut i: usize = 0;
     while i < m {
         let id = wide_id(ids[i]);
-        if id < GPUS {
-            table[id] = with_owner(table[id], owner);
+        write_gpu(gpus, id, with_owner(read_gpu(gpus, id), owner));
+        i += 1;
+    }
+}
+
+pub fn free_all(gpus: &mut [[u64; CARD]; GPUS], owner: u16)
+    ensures { λ _. ⌜ gpusOf (now (gpus .exit)) ≡ map (freed owner) (gpusOf (now (gpus .entry))) ⌝ }
+{
+    let m = gpu_places(gpus);
+    let mut i: usize = 0;
+    while i < m {
+        if may_hold(gpus, i, owner) {
+            write_gpu(gpus, i, free_gpu(read_gpu(gpus, i), owner));
         }
         i += 1;
     }
-    table
-}
-
-pub fn free_all(gpus: [Gpu; GPUS], owner: u16) -> [Gpu; GPUS]
-    ensures { λ r. ⌜ r ≡ map (freed owner) gpus ⌝ }
-{
-    let mut table = gpus;
-    let mut i: usize = 0;
-    while i < GPUS {
-        table[i] = free_gpu(table[i], owner);
-        i += 1;
-    }
-    table
 }

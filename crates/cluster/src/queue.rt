@@ -56,6 +56,10 @@ fn arrivals(jobs: &[[u64; ROW]; JOBS]) -> [u64; JOBS]
 pub fn sort_queue(jobs: &[[u64; ROW]; JOBS], queue: [u16; JOBS], n: usize) -> [u16; JOBS]
     ensures { λ r. ⌜ r ≡ sortedQueue (jobsOf (now (jobs .entry))) queue n ⌝ }
 {
+    // one alone stands as it is
+    if n < 2 {
+        return queue;
+    }
     let first = priorities(jobs);
     let second = arrivals(jobs);
     sort_front(true, &first, &second, queue, n)

@@ -11,7 +11,7 @@ use Rattle.laws.specs.Lists.{pad, pad-set, pad-full, pad-take}
 use Rattle.laws.specs.Search.{those, those-length, those-next-take, those-next-skip}
 use Rattle.laws.specs.Sort.{only}
 use Rattle.eligible.specs.More.{take-next, take-both, take-past, take-least, each-const, only-length, only-take, only-skip, map-next, each, each-same, each-set, each-get, each-length}
-use Rattle.laws.specs.Tables.{getD-any, past-read}
+use Rattle.laws.specs.Tables.{past-read}
 use Rattle.model.specs.Gpu.{noGpu}
 use Rattle.model.specs.declared.gpu.Gpu.{Gpu}
 use Rattle.model.specs.declared.job.Ask.{Ask}
@@ -179,10 +179,8 @@ module _ (p : ℕ → Bool) (i : ℕ) (ids : List ℕ) (k : ℕ) where
   those-size r = omega (arith, r .size, those-length p i 0)
 
 -- the test of the code is that of the definition
-pub may-is : (gpus : List Gpu) (sites : List ℕ) (ask : Ask) (i s : ℕ) (d : Gpu) (r : Bool) → i < length gpus → s ≡ getD sites ((getD gpus i d) .node) 0 → r ≡ eligible ask s (getD gpus i d) → mayTake gpus sites ask i ≡ r
-may-is gpus sites ask i s d r h e f =
-    let g : getD gpus i noGpu ≡ getD gpus i d = getD-any gpus i noGpu d h in
-    rw g (sym (f ∙ rw e))
+pub may-is : (gpus : List Gpu) (sites : List ℕ) (ask : Ask) (i s : ℕ) (g : Gpu) (r : Bool) → g ≡ getD gpus i noGpu → s ≡ getD sites (g .node) 0 → r ≡ eligible ask s g → mayTake gpus sites ask i ≡ r
+may-is gpus sites ask i s g r e h f = sym (f ∙ rw (h, e))
 
 -- ---- one list behind another
 

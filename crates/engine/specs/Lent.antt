@@ -1,4 +1,4 @@
--- A step and what follows its event, of a plan whose tables of jobs and events are lent as rows.
+-- A step and what follows its event, of a plan whose tables of GPUs, jobs and events are lent as rows.
 use mathlib.Core.Path.{_≡_, refl, ap, _∙_}
 use mathlib.Core.Bool.{false}
 use mathlib.Core.List.{List, []}
@@ -10,6 +10,7 @@ use Rattle.model.specs.Sizes as Sizes
 use Rattle.model.specs.declared.job.Job.{Job}
 use Rattle.model.specs.declared.plan.Plan.{Plan}
 use Rattle.model.specs.declared.event.Event.{Event}
+use Rattle.rows.specs.Gpu.{gpusOf}
 use Rattle.rows.specs.Job.{jobsOf}
 use Rattle.rows.specs.Event.{eventsOf}
 use Rattle.room.specs.Room.{taken}
@@ -33,23 +34,23 @@ use Rattle.engine.specs.Advance.{happened, withFound}
 use Rattle.engine.specs.declared.advance.Found.{Found}
 
 -- the pass looks at no event: it is the same whatever the room
-abbrev pub passFrom : Point → List (List ℕ) → Pass
-passFrom m jobs = passOf (wholeMoment m jobs [])
+abbrev pub passFrom : Point → List (List ℕ) → List (List ℕ) → Pass
+passFrom m gpus jobs = passOf (wholeMoment m gpus jobs [])
 
 -- what is kept beside the tables after the starts; the queue keeps those of the jobs that still wait
 unfoldable pub restAfter : Rest → Turn → Beginning → List Job → Rest
 restAfter r q b jobs =
     let left = stillWaiting jobs (q .line .queue) (q .line .waiting) in
-    record { setting = r .setting; gpus = q .gpus; queue = pad Sizes.jobs 0 left; waiting = length left; next = b .ahead .next; clock = r .clock; totals = b .totals }
+    record { setting = r .setting; queue = pad Sizes.jobs 0 left; waiting = length left; next = b .ahead .next; clock = r .clock; totals = b .totals }
 
--- the starts, when the victims' timeouts are queued
+-- the starts, when the victims' timeouts are queued: they look at no GPU, whatever the rows before and after the pass
 pub starts-lent :
-    (r : Rest) (q : Turn) (jobs room mid : List (List ℕ)) (a : Next) (b : Begun) →
+    (r : Rest) (q : Turn) (was gpus jobs room mid : List (List ℕ)) (a : Next) (b : Begun) →
     wholeAhead a mid ≡ timeoutsQueued (r .clock) (jobsOf jobs) (wholeAhead (record { next = r .next; ok = q .line .ok }) room) (take (q .line .evicted) (q .line .victims)) →
     b ≡ begunAll (r .setting .options) (r .clock) (wholeBegun (record { ahead = a; totals = q .line .totals; log = q .line .log }) jobs mid) (take (q .count) (q .placed)) →
-    b ≡ startsOf (wholePlan r jobs room) (wholePass q jobs)
+    b ≡ startsOf (wholePlan r was jobs room) (wholePass q gpus jobs)
 unfolding startsOf
-starts-lent r q jobs room mid a b t e =
+starts-lent r q was gpus jobs room mid a b t e =
     e ∙ ap (λ (x : Ahead). begunAll (r .setting .options) (r .clock) (record { jobs = jobsOf jobs; ahead = x; totals = q .line .totals; log = q .line .log }) (take (q .count) (q .placed))) t
 
 -- the moment after a pass and its starts
@@ -58,27 +59,27 @@ settledBy p q b = record { plan = withPass p q b; log = b .log; ok = b .ahead .o
 
 -- Pass, timeouts, starts: the rows before the pass, after it, and after the starts.
 pub settled-lent :
-    (m : Point) (jobs room visited started ahead : List (List ℕ)) (q : Turn) (b : Beginning) (r : Rest) →
-    wholePass q visited ≡ passFrom m jobs →
-    wholeBegun b started ahead ≡ startsOf (wholePlan (m .rest) visited room) (wholePass q visited) →
+    (m : Point) (gpus jobs room given visited started ahead : List (List ℕ)) (q : Turn) (b : Beginning) (r : Rest) →
+    wholePass q given visited ≡ passFrom m gpus jobs →
+    wholeBegun b started ahead ≡ startsOf (wholePlan (m .rest) gpus visited room) (wholePass q given visited) →
     r ≡ restAfter (m .rest) q b (jobsOf started) →
-    wholeMoment (record { rest = r; log = b .log; ok = b .ahead .ok; goes = false }) started ahead ≡ settled (wholeMoment m jobs room)
+    wholeMoment (record { rest = r; log = b .log; ok = b .ahead .ok; goes = false }) given started ahead ≡ settled (wholeMoment m gpus jobs room)
 unfolding passOf startsOf withPass settled restAfter
-settled-lent m jobs room visited started ahead q b r p s e =
-    let before : Plan = wholePlan (m .rest) jobs room in
-    rw e (ap (settledBy before (wholePass q visited)) s ∙ ap (λ (x : Pass). settledBy before x (startsOf before x)) p)
+settled-lent m gpus jobs room given visited started ahead q b r p s e =
+    let before : Plan = wholePlan (m .rest) gpus jobs room in
+    rw e (ap (settledBy before (wholePass q given visited)) s ∙ ap (λ (x : Pass). settledBy before x (startsOf before x)) p)
 
 -- ---- the event that was found
 
 abbrev pub atTime : Rest → Float → Rest
-atTime r t = record { setting = r .setting; gpus = r .gpus; queue = r .queue; waiting = r .waiting; next = r .next; clock = t; totals = r .totals }
+atTime r t = record { setting = r .setting; queue = r .queue; waiting = r .waiting; next = r .next; clock = t; totals = r .totals }
 
 -- what it says is done, when it is taken out of the room and the clock is its time
 pub happened-lent :
-    (r : Rest) (f : Found) (jobs room mid : List (List ℕ)) (m : Moment) →
+    (r : Rest) (f : Found) (gpus jobs room mid : List (List ℕ)) (m : Moment) →
     eventsOf mid ≡ taken (eventsOf room) (f .at) →
-    m ≡ happened (wholePlan (atTime r (f .event .time)) jobs mid) (f .event) →
-    m ≡ happened (withFound (wholePlan r jobs room) f) (f .event)
+    m ≡ happened (wholePlan (atTime r (f .event .time)) gpus jobs mid) (f .event) →
+    m ≡ happened (withFound (wholePlan r gpus jobs room) f) (f .event)
 unfolding withFound
-happened-lent r f jobs room mid m t e =
-    e ∙ ap (λ (x : List Event). happened (record { setting = r .setting; gpus = r .gpus; jobs = jobsOf jobs; queue = r .queue; waiting = r .waiting; events = x; next = r .next; clock = f .event .time; totals = r .totals }) (f .event)) t
+happened-lent r f gpus jobs room mid m t e =
+    e ∙ ap (λ (x : List Event). happened (record { setting = r .setting; gpus = gpusOf gpus; jobs = jobsOf jobs; queue = r .queue; waiting = r .waiting; events = x; next = r .next; clock = f .event .time; totals = r .totals }) (f .event)) t

@@ -10,14 +10,17 @@ use happen::on_timeout;
 use model::event::Event;
 use model::event::EventKind;
 use model::sizes::EVENTS;
+use model::sizes::GPUS;
 use model::sizes::JOBS;
-use room::least_event;
+use room::least_under;
 use room::take_event;
 use rows::event::ENTRY;
 use rows::event::read_event;
+use rows::gpu::CARD;
 use rows::job::ROW;
 ghost use mathlib.Core.Path.{_≡_};
 ghost use Rattle.rows.specs.Event.{eventsOf};
+ghost use Rattle.room.specs.Top.{freeFrom};
 ghost use Rattle.happen.specs.Happen.{wholePlan, wholeMoment};
 ghost use Rattle.engine.specs.Advance.{happened, foundIn, advancedBy};
 
@@ -27,11 +30,12 @@ pub struct Found {
     pub event: Event,
 }
 
-// The least event; an empty one where there is none.
-pub fn next_event(room: &[[u64; ENTRY]; EVENTS]) -> Found
+// The least event; an empty one where there is none. No entry from the top on holds one.
+pub fn next_event(room: &[[u64; ENTRY]; EVENTS], top: usize) -> Found
+    requires { ⌜ freeFrom top (eventsOf (now room)) ⌝ }
     ensures { λ r. ⌜ r ≡ foundIn (eventsOf (now (room .entry))) ⌝ }
 {
-    let at = least_event(room);
+    let at = least_under(room, top);
     Found {
         at: at,
         event: read_event(room, at),
@@ -39,38 +43,40 @@ pub fn next_event(room: &[[u64; ENTRY]; EVENTS]) -> Found
 }
 
 fn happen_as(
+    gpus: &mut [[u64; CARD]; GPUS],
     jobs: &mut [[u64; ROW]; JOBS],
     room: &mut [[u64; ENTRY]; EVENTS],
     rest: Rest,
     e: Event,
 ) -> Point
-    ensures { λ r. ⌜ wholeMoment r (now (jobs .exit)) (now (room .exit)) ≡ happened (wholePlan rest (now (jobs .entry)) (now (room .entry))) e ⌝ }
+    ensures { λ r. ⌜ wholeMoment r (now (gpus .exit)) (now (jobs .exit)) (now (room .exit)) ≡ happened (wholePlan rest (now (gpus .entry)) (now (jobs .entry)) (now (room .entry))) e ⌝ }
 {
     let kind = e.kind;
     match kind {
         EventKind::Empty => nothing(rest),
         EventKind::Arrival => on_arrival(jobs, room, rest, e),
-        EventKind::Completion => on_completion(jobs, rest, e),
+        EventKind::Completion => on_completion(gpus, jobs, rest, e),
         EventKind::Timeout => on_timeout(jobs, rest, e),
     }
 }
 
 // With the event that was found; a stale one is taken, and no pass follows it.
 pub fn advance(
+    gpus: &mut [[u64; CARD]; GPUS],
     jobs: &mut [[u64; ROW]; JOBS],
     room: &mut [[u64; ENTRY]; EVENTS],
     rest: Rest,
     next: Found,
 ) -> Point
-    ensures { λ r. ⌜ wholeMoment r (now (jobs .exit)) (now (room .exit)) ≡ advancedBy (wholePlan rest (now (jobs .entry)) (now (room .entry))) next ⌝ }
+    ensures { λ r. ⌜ wholeMoment r (now (gpus .exit)) (now (jobs .exit)) (now (room .exit)) ≡ advancedBy (wholePlan rest (now (gpus .entry)) (now (jobs .entry)) (now (room .entry))) next ⌝ }
 {
     let e = next.event;
     take_event(room, next.at);
     let mut at = rest;
     at.clock = e.time;
-    let m = happen_as(jobs, room, at, e);
+    let m = happen_as(gpus, jobs, room, at, e);
     if m.goes {
-        return settle(jobs, room, m);
+        return settle(gpus, jobs, room, m);
     }
     m
 }

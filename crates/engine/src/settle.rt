@@ -5,17 +5,21 @@ use happen::Rest;
 use line::join::new_line;
 use line::keep::keep_waiting;
 use model::sizes::EVENTS;
+use model::sizes::GPUS;
 use model::sizes::JOBS;
 use pass::visit::Turn;
 use pass::visit::new_turn;
 use pass::walk::walk;
 use room::ahead::Next;
 use rows::event::ENTRY;
+use rows::gpu::CARD;
 use rows::job::ROW;
 use starts::begin::Beginning;
 use starts::begin::begin_all;
 use starts::timeout::queue_timeouts;
 ghost use mathlib.Core.Path.{_≡_};
+ghost use mathlib.Core.List.{List};
+ghost use Prim.Native.Nat.{ℕ};
 ghost use Rattle.rows.specs.Job.{jobsOf};
 ghost use Rattle.starts.specs.Begin.{wholeBegun};
 ghost use Rattle.pass.specs.Visit.{wholePass};
@@ -23,17 +27,16 @@ ghost use Rattle.happen.specs.Happen.{wholePlan, wholeMoment};
 ghost use Rattle.engine.specs.Settle.{startsOf, settled};
 ghost use Rattle.engine.specs.Lent.{passFrom, restAfter};
 
-fn pass_of(jobs: &mut [[u64; ROW]; JOBS], m: Point) -> Turn
-    ensures { λ r. ⌜ wholePass r (now (jobs .exit)) ≡ passFrom m (now (jobs .entry)) ⌝ }
+fn pass_of(gpus: &mut [[u64; CARD]; GPUS], jobs: &mut [[u64; ROW]; JOBS], m: Point) -> Turn
+    ensures { λ r. ⌜ wholePass r (now (gpus .exit)) (now (jobs .exit)) ≡ passFrom m (now (gpus .entry)) (now (jobs .entry)) ⌝ }
 {
     let rest = m.rest;
     let setting = rest.setting;
-    let gpus = rest.gpus;
     let queue = rest.queue;
     let totals = rest.totals;
     let log = m.log;
     let line = new_line(queue, rest.waiting, totals, log, m.ok);
-    walk(setting, rest.clock, jobs, new_turn(gpus, line))
+    walk(setting, rest.clock, gpus, jobs, new_turn(line))
 }
 
 // Timeouts of the victims come before the completions of those that start.
@@ -43,7 +46,7 @@ fn starts_of(
     rest: Rest,
     pass: Turn,
 ) -> Beginning
-    ensures { λ r. ⌜ wholeBegun r (now (jobs .exit)) (now (room .exit)) ≡ startsOf (wholePlan rest (now (jobs .entry)) (now (room .entry))) (wholePass pass (now (jobs .entry))) ⌝ }
+    ensures { λ r. ⌜ ((was gpus : List (List ℕ)) → wholeBegun r (now (jobs .exit)) (now (room .exit)) ≡ startsOf (wholePlan rest was (now (jobs .entry)) (now (room .entry))) (wholePass pass gpus (now (jobs .entry)))) ⌝ }
 {
     let setting = rest.setting;
     let options = setting.options;
@@ -70,7 +73,6 @@ fn with_pass(jobs: &[[u64; ROW]; JOBS], rest: Rest, pass: Turn, begun: Beginning
     ensures { λ r. ⌜ r ≡ restAfter rest pass begun (jobsOf (now (jobs .entry))) ⌝ }
 {
     let setting = rest.setting;
-    let gpus = pass.gpus;
     let line = pass.line;
     let queue = line.queue;
     let ahead = begun.ahead;
@@ -79,7 +81,6 @@ fn with_pass(jobs: &[[u64; ROW]; JOBS], rest: Rest, pass: Turn, begun: Beginning
     let ids = kept.ids;
     Rest {
         setting: setting,
-        gpus: gpus,
         queue: ids,
         waiting: kept.count,
         next: ahead.next,
@@ -88,11 +89,24 @@ fn with_pass(jobs: &[[u64; ROW]; JOBS], rest: Rest, pass: Turn, begun: Beginning
     }
 }
 
-pub fn settle(jobs: &mut [[u64; ROW]; JOBS], room: &mut [[u64; ENTRY]; EVENTS], m: Point) -> Point
-    ensures { λ r. ⌜ wholeMoment r (now (jobs .exit)) (now (room .exit)) ≡ settled (wholeMoment m (now (jobs .entry)) (now (room .entry))) ⌝ }
+pub fn settle(
+    gpus: &mut [[u64; CARD]; GPUS],
+    jobs: &mut [[u64; ROW]; JOBS],
+    room: &mut [[u64; ENTRY]; EVENTS],
+    m: Point,
+) -> Point
+    ensures { λ r. ⌜ wholeMoment r (now (gpus .exit)) (now (jobs .exit)) (now (room .exit)) ≡ settled (wholeMoment m (now (gpus .entry)) (now (jobs .entry)) (now (room .entry))) ⌝ }
 {
     let rest = m.rest;
-    let pass = pass_of(jobs, m);
+    if rest.waiting == 0 {
+        let mut after = rest;
+        after.queue = [0; JOBS];
+        let mut end = m;
+        end.rest = after;
+        end.goes = false;
+        return end;
+    }
+    let pass = pass_of(gpus, jobs, m);
     let begun = starts_of(jobs, room, rest, pass);
     let log = begun.log;
     let ahead = begun.ahead;

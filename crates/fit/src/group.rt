@@ -28,10 +28,13 @@ pub fn fullest_key(counts: &[u16; KEYS]) -> u16
     ensures { λ r. ⌜ r ≡ fullest (now (counts .entry)) ⌝ }
 {
     let mut b: usize = 0;
+    let mut most = counted_at(counts, 0);
     let mut i: usize = 0;
     while i < KEYS {
-        if counted_at(counts, b) < counted_at(counts, i) {
+        let n = counted_at(counts, i);
+        if most < n {
             b = i;
+            most = n;
         }
         i = i + 1;
     }

@@ -4,6 +4,7 @@ pub mod Run
 pub mod RunLaws
 pub mod Ran
 pub mod Load
+pub mod TopLaws
 pub mod Held
 pub mod HeldLaws
 pub mod Lent

@@ -11,11 +11,9 @@ use Rattle.model.specs.Number.{zero·0}
 use Rattle.model.specs.Totals.{noTotals}
 use Rattle.model.specs.declared.event.Event.{Event}
 use Rattle.model.specs.declared.job.Job.{Job}
-use Rattle.model.specs.declared.gpu.Gpu.{Gpu}
 use Rattle.model.specs.declared.plan.Plan.{Plan}
 use Rattle.model.specs.declared.setting.Setting.{Setting}
 use Rattle.mig.specs.More.{take-least}
-use Rattle.rows.specs.Gpu.{gpusOf}
 use Rattle.rows.specs.Job.{jobsOf}
 use Rattle.rows.specs.Event.{eventsOf}
 use Rattle.trace.specs.Answer.{accepted}
@@ -33,8 +31,8 @@ use Rattle.gpu_planner.specs.Ran.{ran, ran-loaded, ran-refused}
 use Rattle.gpu_planner.specs.declared.head.Head.{Head}
 
 -- a loaded plan beside its tables
-abbrev pub firstRest : Setting → List Gpu → Rest
-firstRest s gpus = record { setting = s; gpus = gpus; queue = replicate Sizes.jobs 0; waiting = 0; next = s .jobs; clock = zero·0; totals = noTotals }
+abbrev pub firstRest : Setting → Rest
+firstRest s = record { setting = s; queue = replicate Sizes.jobs 0; waiting = 0; next = s .jobs; clock = zero·0; totals = noTotals }
 
 -- its room, of entries that held nothing
 pub first-room : (events : List Event) (jobs : List Job) (n m places : ℕ) → (places ≡ Sizes.jobs) × (length jobs ≡ Sizes.jobs) → m ≡ min n places → events ≡ arrivalsOver (eventsOf (replicate Sizes.events (replicate 5 0))) jobs m → events ≡ arrivals jobs n
@@ -50,7 +48,7 @@ module _ (u : Going) (gpus jobs : List (List ℕ)) (l : Loaded) (is : finished (
   same-answer = split (accepted (u .answer)) (λ e. ap (λ (x : Loaded). x .answer) (rw e at is)) (λ e. ap (λ (x : Loaded). x .answer) (rw e at is))
 
   -- accepted, the tables hold its plan
-  pub same-plan : (room : List (List ℕ)) → accepted (u .answer) ≡ true → eventsOf room ≡ arrivals (jobsOf jobs) (u .loading .setting .jobs) → wholePlan (firstRest (u .loading .setting) (gpusOf gpus)) jobs room ≡ l .plan
+  pub same-plan : (room : List (List ℕ)) → accepted (u .answer) ≡ true → eventsOf room ≡ arrivals (jobsOf jobs) (u .loading .setting .jobs) → wholePlan (firstRest (u .loading .setting)) gpus jobs room ≡ l .plan
   unfolding finished planOf
   same-plan room a e = let p : planOf (wholeTurn u gpus jobs .tables) ≡ l .plan = ap (λ (x : Loaded). x .plan) (rw a at is) in rw e p
 
@@ -60,12 +58,12 @@ module _ (trace ws : List ℕ) (u : Going) (gpus jobs : List (List ℕ)) (is : f
   pub ran-lent :
       (room : List (List ℕ)) (r : Rest) (out : List ℕ) → accepted (u .answer) ≡ true →
       eventsOf room ≡ arrivals (jobsOf jobs) (u .loading .setting .jobs) →
-      r ≡ firstRest (u .loading .setting) (gpusOf gpus) →
-      h ≡ runTo turns (wholePlan r jobs room) 0 0 ws .head →
-      out ≡ runTo turns (wholePlan r jobs room) 0 0 ws .words →
+      r ≡ firstRest (u .loading .setting) →
+      h ≡ runTo turns (wholePlan r gpus jobs room) 0 0 ws .head →
+      out ≡ runTo turns (wholePlan r gpus jobs room) 0 0 ws .words →
       (h ≡ ran trace ws .head) × (out ≡ ran trace ws .words)
   ran-lent room r out a e f k o =
-      let p : wholePlan r jobs room ≡ load trace .plan = ap (λ (x : Rest). wholePlan x jobs room) f ∙ same-plan u gpus jobs (load trace) is room a e in
+      let p : wholePlan r gpus jobs room ≡ load trace .plan = ap (λ (x : Rest). wholePlan x gpus jobs room) f ∙ same-plan u gpus jobs (load trace) is room a e in
       let b : accepted (load trace .answer) ≡ true = sym (ap (λ (x : Answer). accepted x) (same-answer u gpus jobs (load trace) is)) ∙ a in
       ran-loaded trace ws (load trace) refl b h out (k ∙ ap (λ (x : Plan). runTo turns x 0 0 ws .head) p) (o ∙ ap (λ (x : Plan). runTo turns x 0 0 ws .words) p)
 

@@ -8,9 +8,11 @@ use lib.ListN.{length, take, drop, length-drop, drop-of-length-le}
 use lib.Seq.{take-all}
 use Rattle.model.specs.declared.plan.Plan.{Plan}
 use Rattle.log.specs.Log.{most}
+use Rattle.room.specs.Top.{freeFrom, topAfter}
 use Rattle.planner.specs.Step.{wordsNeeded, numberOf, stepped, wordsAfter}
 use Rattle.planner.specs.StepLaws.{accepted-for}
-use Rattle.planner.specs.Lent.{Left, isTaken, step-taken}
+use Rattle.planner.specs.Lent.{leftIn, Left, isTaken, step-taken}
+use Rattle.planner.specs.TopLaws.{left-top}
 use Rattle.planner.specs.declared.Stepped.{Stepped}
 use Rattle.planner.specs.declared.Taken.{Taken}
 use Rattle.planner.specs.declared.Taken.the-variants.{Decisions}
@@ -76,6 +78,10 @@ module _ (p : Plan) (steps count : ℕ) (ws out : List ℕ) (a : Taken) (q : Pla
       let o : (behind (count + m) ≤ length (back (behind count) ws out)) × (runTo (turns - (steps + 1)) (wholeStep .plan) (steps + 1) (count + m) (back (behind count) ws out) ≡ whole) = turn-on p steps count ws out wholeStep whole refl (told .1 .1) more inv n m s f l b in
       let k : q ≡ wholeStep .plan = told .1 .0 ∙ step-taken p (lent (behind count) ws) t in
       (o .0, rw k (o .1))
+
+-- what a step leaves in the tables has no event from the next top on
+pub next-top : (p q : Plan) (size top above : ℕ) → freeFrom top (p .events) → q ≡ leftIn p size → above ≡ topAfter (q .events) top → freeFrom above (q .events)
+next-top p q size top above free e a = rw (a, e) (left-top p size top free)
 
 -- the head and the words of a run that is known
 pub both-of : (whole : Run) (h r : Head) (ws : List ℕ) → record { head = h; words = ws } ≡ whole → r ≡ h → (r ≡ whole .head) × (ws ≡ whole .words)

@@ -3,8 +3,8 @@
 pub mod head;
 pub mod held;
 pub mod lent;
-pub mod load;
-pub mod run;
+mod load;
+mod run;
 
 use head::put_head;
 use load::load_and_run;

@@ -6,7 +6,6 @@ use crate::run::run;
 use happen::Rest;
 use loader::arrivals::write_arrivals;
 use loader::load::load_tables;
-use model::gpu::Gpu;
 use model::setting::Setting;
 use model::sizes::EVENTS;
 use model::sizes::GPUS;
@@ -14,7 +13,6 @@ use model::sizes::JOBS;
 use model::totals::no_totals;
 use rows::event::ENTRY;
 use rows::gpu::CARD;
-use rows::gpu::read_gpus;
 use rows::job::ROW;
 use rows::job::job_places;
 use small::lesser;
@@ -26,12 +24,11 @@ ghost use Rattle.gpu_planner.specs.Load.{firstRest};
 ghost use Rattle.gpu_planner.specs.Ran.{ran};
 
 // A loaded plan beside its tables: nobody waits, and the clock is 0.0.
-fn first_rest(setting: Setting, gpus: [Gpu; GPUS]) -> Rest
-    ensures { λ r. ⌜ r ≡ firstRest setting gpus ⌝ }
+fn first_rest(setting: Setting) -> Rest
+    ensures { λ r. ⌜ r ≡ firstRest setting ⌝ }
 {
     Rest {
         setting: setting,
-        gpus: gpus,
         queue: [0; JOBS],
         waiting: 0,
         next: setting.jobs as u64,
@@ -57,9 +54,11 @@ pub fn load_and_run(trace: &[u8], words: &mut [u64]) -> Head
         let n = lesser(setting.jobs as usize, job_places(&jobs));
         write_arrivals(&mut room, &jobs, n);
         return run(
+            &mut gpus,
             &mut jobs,
             &mut room,
-            first_rest(setting, read_gpus(&gpus)),
+            first_rest(setting),
+            n,
             words,
         );
     }

@@ -24,6 +24,7 @@ use Rattle.room.specs.declared.ahead.Ahead.{Ahead}
 use Rattle.starts.specs.Timeout.{timeoutQueued}
 use Rattle.starts.specs.Begin.{amount}
 use Rattle.line.specs.Keep.{waits, stillWaiting}
+use Rattle.rows.specs.Gpu.{gpusOf}
 use Rattle.rows.specs.Job.{jobsOf}
 use Rattle.rows.specs.Event.{eventsOf}
 use Rattle.happen.specs.declared.Moment.{Moment}
@@ -31,11 +32,11 @@ use Rattle.happen.specs.declared.Rest.{Rest}
 use Rattle.happen.specs.declared.Point.{Point}
 
 -- the plan, with the tables that were lent
-abbrev pub wholePlan : Rest → List (List ℕ) → List (List ℕ) → Plan
-wholePlan r jobs room = record { setting = r .setting; gpus = r .gpus; jobs = jobsOf jobs; queue = r .queue; waiting = r .waiting; events = eventsOf room; next = r .next; clock = r .clock; totals = r .totals }
+abbrev pub wholePlan : Rest → List (List ℕ) → List (List ℕ) → List (List ℕ) → Plan
+wholePlan r gpus jobs room = record { setting = r .setting; gpus = gpusOf gpus; jobs = jobsOf jobs; queue = r .queue; waiting = r .waiting; events = eventsOf room; next = r .next; clock = r .clock; totals = r .totals }
 
-abbrev pub wholeMoment : Point → List (List ℕ) → List (List ℕ) → Moment
-wholeMoment m jobs room = record { plan = wholePlan (m .rest) jobs room; log = m .log; ok = m .ok; goes = m .goes }
+abbrev pub wholeMoment : Point → List (List ℕ) → List (List ℕ) → List (List ℕ) → Moment
+wholeMoment m gpus jobs room = record { plan = wholePlan (m .rest) gpus jobs room; log = m .log; ok = m .ok; goes = m .goes }
 
 abbrev pub jobOf : Plan → ℕ → Job
 jobOf p id = getD (p .jobs) id noJob
@@ -70,7 +71,6 @@ joinsRest r id =
     let waiting = onward (r .waiting) Sizes.jobs in
     record {
       setting = r .setting;
-      gpus = r .gpus;
       queue = set (r .queue) (r .waiting) id;
       waiting = waiting;
       next = r .next;

@@ -10,9 +10,8 @@ use line::keep::keep_waiting;
 use log::Kind;
 use log::Log;
 use log::empty_log;
-use log::tell;
+use log::first_log;
 use model::event::Event;
-use model::gpu::Gpu;
 use model::job::Job;
 use model::number::bits_of;
 use model::number::is_permitted;
@@ -26,6 +25,7 @@ use model::totals::Totals;
 use noted::after_join;
 use room::ahead::Next;
 use rows::event::ENTRY;
+use rows::gpu::CARD;
 use rows::job::ROW;
 use rows::job::read_job;
 use rows::job::write_job;
@@ -49,10 +49,9 @@ pub struct Moment {
     pub goes: bool,
 }
 
-// A plan without the tables of jobs and events, which are lent.
+// A plan without its tables of GPUs, jobs and events, which are lent.
 pub struct Rest {
     pub setting: Setting,
-    pub gpus: [Gpu; GPUS],
     pub queue: [u16; JOBS],
     pub waiting: usize,
     pub next: u64,
@@ -70,7 +69,7 @@ pub struct Point {
 
 // Nothing more is done.
 pub fn nothing(rest: Rest) -> Point
-    ensures { λ r. ⌜ ((jobs room : List (List ℕ)) → wholeMoment r jobs room ≡ stale (wholePlan rest jobs room)) ⌝ }
+    ensures { λ r. ⌜ ((gpus jobs room : List (List ℕ)) → wholeMoment r gpus jobs room ≡ stale (wholePlan rest gpus jobs room)) ⌝ }
 {
     Point {
         rest: rest,
@@ -82,11 +81,11 @@ pub fn nothing(rest: Rest) -> Point
 
 // The step's first decision, at the clock; a pass follows.
 fn say(rest: Rest, ok: bool, kind: Kind, job: u16, other: u16) -> Point
-    ensures { λ r. ⌜ ((jobs room : List (List ℕ)) → wholeMoment r jobs room ≡ said (wholePlan rest jobs room) ok kind job other) ⌝ }
+    ensures { λ r. ⌜ ((gpus jobs room : List (List ℕ)) → wholeMoment r gpus jobs room ≡ said (wholePlan rest gpus jobs room) ok kind job other) ⌝ }
 {
     Point {
         rest: rest,
-        log: tell(empty_log(), bits_of(rest.clock), kind, job, other),
+        log: first_log(bits_of(rest.clock), kind, job, other),
         ok: ok,
         goes: true,
     }
@@ -114,7 +113,7 @@ fn arrive(
     rest: Rest,
     id: u16,
 ) -> Point
-    ensures { λ r. ⌜ wholeMoment r (now (jobs .exit)) (now (room .exit)) ≡ arrives (wholePlan rest (now (jobs .entry)) (now (room .entry))) id ⌝ }
+    ensures { λ r. ⌜ ((gpus : List (List ℕ)) → wholeMoment r gpus (now (jobs .exit)) (now (room .exit)) ≡ arrives (wholePlan rest gpus (now (jobs .entry)) (now (room .entry))) id) ⌝ }
 {
     let j = wait(read_job(jobs, wide_id(id)), rest.clock);
     let ask = j.ask;
@@ -130,22 +129,24 @@ fn arrive(
 }
 
 // What the job held is free.
-fn complete(jobs: &mut [[u64; ROW]; JOBS], rest: Rest, id: u16) -> Point
-    ensures { λ r. ⌜ ((room : List (List ℕ)) → wholeMoment r (now (jobs .exit)) room ≡ completes (wholePlan rest (now (jobs .entry)) room) id) ⌝ }
+fn complete(
+    gpus: &mut [[u64; CARD]; GPUS],
+    jobs: &mut [[u64; ROW]; JOBS],
+    rest: Rest,
+    id: u16,
+) -> Point
+    ensures { λ r. ⌜ ((room : List (List ℕ)) → wholeMoment r (now (gpus .exit)) (now (jobs .exit)) room ≡ completes (wholePlan rest (now (gpus .entry)) (now (jobs .entry)) room) id) ⌝ }
 {
-    let gpus = rest.gpus;
     let j = read_job(jobs, wide_id(id));
     let ask = j.ask;
     write_job(jobs, wide_id(id), end(j));
-    let free = free_all(gpus, plus_one(id));
-    let mut after = rest;
-    after.gpus = free;
-    say(after, true, Kind::Completed, id, amount(ask))
+    free_all(gpus, plus_one(id));
+    say(rest, true, Kind::Completed, id, amount(ask))
 }
 
 // The job has failed and leaves the queue; its waited has to be permitted.
 fn time_out(jobs: &mut [[u64; ROW]; JOBS], rest: Rest, id: u16) -> Point
-    ensures { λ r. ⌜ ((room : List (List ℕ)) → wholeMoment r (now (jobs .exit)) room ≡ timesOut (wholePlan rest (now (jobs .entry)) room) id) ⌝ }
+    ensures { λ r. ⌜ ((gpus room : List (List ℕ)) → wholeMoment r gpus (now (jobs .exit)) room ≡ timesOut (wholePlan rest gpus (now (jobs .entry)) room) id) ⌝ }
 {
     let queue = rest.queue;
     let j = fail(read_job(jobs, wide_id(id)), rest.clock);
@@ -178,22 +179,27 @@ pub fn on_arrival(
     rest: Rest,
     e: Event,
 ) -> Point
-    ensures { λ r. ⌜ wholeMoment r (now (jobs .exit)) (now (room .exit)) ≡ arrived (wholePlan rest (now (jobs .entry)) (now (room .entry))) e ⌝ }
+    ensures { λ r. ⌜ ((gpus : List (List ℕ)) → wholeMoment r gpus (now (jobs .exit)) (now (room .exit)) ≡ arrived (wholePlan rest gpus (now (jobs .entry)) (now (room .entry))) e) ⌝ }
 {
     arrive(jobs, room, rest, e.job)
 }
 
-pub fn on_completion(jobs: &mut [[u64; ROW]; JOBS], rest: Rest, e: Event) -> Point
-    ensures { λ r. ⌜ ((room : List (List ℕ)) → wholeMoment r (now (jobs .exit)) room ≡ completed (wholePlan rest (now (jobs .entry)) room) e) ⌝ }
+pub fn on_completion(
+    gpus: &mut [[u64; CARD]; GPUS],
+    jobs: &mut [[u64; ROW]; JOBS],
+    rest: Rest,
+    e: Event,
+) -> Point
+    ensures { λ r. ⌜ ((room : List (List ℕ)) → wholeMoment r (now (gpus .exit)) (now (jobs .exit)) room ≡ completed (wholePlan rest (now (gpus .entry)) (now (jobs .entry)) room) e) ⌝ }
 {
     if is_of_run(read_job(jobs, wide_id(e.job)), e.generation) {
-        return complete(jobs, rest, e.job);
+        return complete(gpus, jobs, rest, e.job);
     }
     nothing(rest)
 }
 
 pub fn on_timeout(jobs: &mut [[u64; ROW]; JOBS], rest: Rest, e: Event) -> Point
-    ensures { λ r. ⌜ ((room : List (List ℕ)) → wholeMoment r (now (jobs .exit)) room ≡ timedOut (wholePlan rest (now (jobs .entry)) room) e) ⌝ }
+    ensures { λ r. ⌜ ((gpus room : List (List ℕ)) → wholeMoment r gpus (now (jobs .exit)) room ≡ timedOut (wholePlan rest gpus (now (jobs .entry)) room) e) ⌝ }
 {
     if is_of_timeout(read_job(jobs, wide_id(e.job)), e.generation) {
         return time_out(jobs, rest, e.job);

@@ -67,11 +67,11 @@ unfolding turns
 turns-end trace n i at t h = let e : n - i ≡ 0 = omega arith in rw e
 
 -- tables of zeros hold nothing
-pub zeros-tables : wholeTables noLoading (replicate Sizes.gpus (replicate 5 0)) (replicate Sizes.jobs (replicate 22 0)) ≡ emptyTables
+pub zeros-tables : wholeTables noLoading (replicate Sizes.gpus (replicate 10 0)) (replicate Sizes.jobs (replicate 22 0)) ≡ emptyTables
 unfolding noLoading emptyTables
-zeros-tables = rw (same-rows gpuOf Sizes.gpus (replicate 5 0) noGpu zeros-gpu, same-rows jobOf Sizes.jobs (replicate 22 0) noJob zeros-job)
+zeros-tables = rw (same-rows gpuOf Sizes.gpus (replicate 10 0) noGpu zeros-gpu, same-rows jobOf Sizes.jobs (replicate 22 0) noJob zeros-job)
 
 -- a load is one into them
-pub load-zeros : (trace : List ℕ) → loadInto trace (wholeTables noLoading (replicate Sizes.gpus (replicate 5 0)) (replicate Sizes.jobs (replicate 22 0))) ≡ load trace
+pub load-zeros : (trace : List ℕ) → loadInto trace (wholeTables noLoading (replicate Sizes.gpus (replicate 10 0)) (replicate Sizes.jobs (replicate 22 0))) ≡ load trace
 unfolding loadInto load
 load-zeros trace = rw zeros-tables

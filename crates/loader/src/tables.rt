@@ -13,7 +13,7 @@ use model::setting::put_site;
 use model::sizes::GPUS;
 use model::sizes::JOBS;
 use rows::gpu::CARD;
-use rows::gpu::write_gpu;
+use rows::gpu::write_new_gpu;
 use rows::job::ROW;
 use rows::job::write_job;
 use trace::record::Card;
@@ -99,7 +99,7 @@ fn put_card(gpus: &mut [[u64; CARD]; GPUS], t: Loading, card: Card) -> Loading
     ensures { λ r. ⌜ (r ≡ cardLoading t) × (gpusOf (now (gpus .exit)) ≡ set (gpusOf (now (gpus .entry))) (t .setting .gpus) (gpuOf card (t .setting .nodes))) ⌝ }
 {
     let mut s = t.setting;
-    write_gpu(
+    write_new_gpu(
         gpus,
         s.gpus as usize,
         s.nodes - 1,

@@ -79,6 +79,23 @@ pub fn tell(log: Log, time: u64, kind: Kind, job: u16, other: u16) -> Log
     }
 }
 
+// The log of one decision.
+pub fn first_log(time: u64, kind: Kind, job: u16, other: u16) -> Log
+    ensures { λ r. ⌜ r ≡ told emptyLog time kind job other ⌝ }
+{
+    let mut table = [no_decision(); DECISIONS];
+    table[0] = Decision {
+        time: time,
+        kind: kind,
+        job: job,
+        other: other,
+    };
+    Log {
+        table: table,
+        count: 1,
+    }
+}
+
 pub fn decision_at(table: [Decision; DECISIONS], i: usize) -> Decision
     ensures { λ r. ⌜ r ≡ getD table i noDecision ⌝ }
 {

@@ -11,7 +11,13 @@ use Rattle.model.specs.Gpu.{noGpu}
 use Rattle.model.specs.declared.gpu.Gpu.{Gpu}
 use Rattle.mig.specs.Slices.{freeSlices, cutAnew, givenSlices}
 use Rattle.mig.specs.Table.{firstIdle, freeInAll, givenInOrder}
+use Rattle.rows.specs.Gpu.{gpusOf}
 use Rattle.mig.specs.declared.allocate.Slices.{Slices}
+use Rattle.mig.specs.declared.allocate.Given.{Given}
+
+-- The answer with the lent table of GPUs.
+abbrev pub wholeSlices : Given → List (List ℕ) → Slices
+wholeSlices given rows = record { gpus = gpusOf rows; placed = given .placed; cut = given .cut }
 
 -- There are enough free slices of the profile in all.
 unfoldable pub enoughFree : List Gpu → ℕ → ℕ → ℕ → Bool

@@ -1,20 +1,22 @@
 -- The turns of the loops over the table.
-use mathlib.Core.Path.{_≡_, sym, ap, _∙_}
+use mathlib.Core.Path.{_≡_, refl, sym, _∙_}
+use mathlib.Core.Logic.{⊎-elim}
 use mathlib.Core.Bool.{true, false}
-use mathlib.Core.List.{List, _++_}
-use Prim.Native.Nat.{ℕ, suc, _+_, _-_, _<_, _≤_, min}
+use mathlib.Core.List.{List, [], _∷_, _++_}
+use Prim.Native.Nat.{ℕ, zero, suc, _+_, _-_, _<_, _≤_, min}
 use native.Mathlib.Omega.{arith}
 use lib.Dec.{eqb}
-use lib.ListN.{length, getD, take, drop, set, take-append-drop}
+use lib.ListN.{length, getD, take, drop, set, length-drop, take-append-drop}
+use lib.Seq.{set-out}
 use Rattle.laws.specs.Search.{those-length, first, first-found, first-next, first-end}
 use Rattle.laws.specs.Sums.{sumOver, sum-next}
-use Rattle.laws.specs.Tables.{getD-any}
+use Rattle.laws.specs.Tests.{le-or-lt}
 use Rattle.laws.specs.Choice.{pick-either}
 use Rattle.model.specs.Gpu.{noGpu}
 use Rattle.model.specs.declared.gpu.Gpu.{Gpu}
 use Rattle.mig.specs.More.{take-least, turn-set, turn-rest, turn-drop}
 use Rattle.mig.specs.Slices.{sliceCount, freeSlice, freeOn, freeSlices, givenSlices}
-use Rattle.mig.specs.Table.{mayCut, mayCutAt, firstIdle, freeInAll, gives, inOrder, givenInOrder}
+use Rattle.mig.specs.Table.{mayCutAt, firstIdle, freeInAll, gives, inOrder, givenInOrder}
 
 -- a GPU has at most seven free slices
 pub free-most : (g : Gpu) (profile : ℕ) → freeSlices g profile ≤ 7
@@ -32,12 +34,37 @@ pub gives-count : {k : ℕ} (g : Gpu) (profile left i except : ℕ) → k ≡ gi
 gives-count g profile left i except e = omega (arith, gives-wanted g profile left i except)
 
 -- a turn of giving
-pub order-turn : (profile owner except left m i : ℕ) (t : List Gpu) (d : Gpu) → i < m → i < length t → take (i + 1) (set t i (givenSlices (getD t i d) profile (gives (getD t i d) profile left i except) owner)) ++ inOrder profile owner except (left - gives (getD t i d) profile left i except) (m - (i + 1)) (i + 1) (drop (i + 1) (set t i (givenSlices (getD t i d) profile (gives (getD t i d) profile left i except) owner))) ≡ take i t ++ inOrder profile owner except left (m - i) i (drop i t)
+order-turn : (profile owner except left m i : ℕ) (t : List Gpu) (d : Gpu) → i < m → i < length t → take (i + 1) (set t i (givenSlices (getD t i d) profile (gives (getD t i d) profile left i except) owner)) ++ inOrder profile owner except (left - gives (getD t i d) profile left i except) (m - (i + 1)) (i + 1) (drop (i + 1) (set t i (givenSlices (getD t i d) profile (gives (getD t i d) profile left i except) owner))) ≡ take i t ++ inOrder profile owner except left (m - i) i (drop i t)
 unfolding inOrder
 order-turn profile owner except left m i t d h k =
     let e : m - i ≡ suc (m - (i + 1)) = omega arith in
     let g : Gpu = givenSlices (getD t i d) profile (gives (getD t i d) profile left i except) owner in
     rw (turn-rest t i g, turn-set t (inOrder profile owner except (left - gives (getD t i d) profile left i except) (m - (i + 1)) (i + 1) (drop (i + 1) t)) i g k, turn-drop t i d k, e)
+
+-- past the table nothing is given
+order-none : (profile owner except left m i : ℕ) (t : List Gpu) → length t ≡ 0 → inOrder profile owner except left m i t ≡ t
+unfolding inOrder
+order-none profile owner except left zero i t h = refl
+order-none profile owner except left (suc m) i [] h = refl
+order-none profile owner except left (suc m) i (g ∷ t) h = absurd (omega arith)
+
+order-past : (profile owner except left m i : ℕ) (t : List Gpu) → length t ≤ i → take i t ++ inOrder profile owner except left m i (drop i t) ≡ t
+order-past profile owner except left m i t h =
+    rw (order-none profile owner except left m i (drop i t) (omega (arith, length-drop i t)), take-append-drop)
+
+-- a turn of giving, in the table or past it
+order-step : (profile owner except left m i : ℕ) (t : List Gpu) → i < m → take (i + 1) (set t i (givenSlices (getD t i noGpu) profile (gives (getD t i noGpu) profile left i except) owner)) ++ inOrder profile owner except (left - gives (getD t i noGpu) profile left i except) (m - (i + 1)) (i + 1) (drop (i + 1) (set t i (givenSlices (getD t i noGpu) profile (gives (getD t i noGpu) profile left i except) owner))) ≡ take i t ++ inOrder profile owner except left (m - i) i (drop i t)
+order-step profile owner except left m i t h =
+    let g : Gpu = givenSlices (getD t i noGpu) profile (gives (getD t i noGpu) profile left i except) owner in
+    ⊎-elim
+    (λ k. rw (set-out t i g k) (order-past profile owner except (left - gives (getD t i noGpu) profile left i except) (m - (i + 1)) (i + 1) t (omega arith) ∙ sym (order-past profile owner except left (m - i) i t k)))
+    (λ k. order-turn profile owner except left m i t noGpu h k)
+    (le-or-lt (length t) i)
+
+-- the same step by step
+pub order-again : (profile owner except left m i k : ℕ) (t u all : List Gpu) (g h : Gpu) → i < m → g ≡ getD t i noGpu → k ≡ gives g profile left i except → h ≡ givenSlices g profile k owner → u ≡ set t i h → take i t ++ inOrder profile owner except left (m - i) i (drop i t) ≡ all → take (i + 1) u ++ inOrder profile owner except (left - k) (m - (i + 1)) (i + 1) (drop (i + 1) u) ≡ all
+order-again profile owner except left m i k t u all g h l read count given put e =
+    rw (put, given, count, read) (order-step profile owner except left m i t l ∙ e)
 
 -- past the last GPU all have given
 pub order-end : (profile owner except left m i : ℕ) (t : List Gpu) → m ≤ i → t ≡ take i t ++ inOrder profile owner except left (m - i) i (drop i t)
@@ -54,14 +81,12 @@ module _ (gpus : List Gpu) (n m : ℕ) where
   idle-start e = let s : m - 0 ≡ min n 128 = omega arith in rw s
 
   -- the GPU at hand may be cut
-  pub idle-found : (i : ℕ) (d : Gpu) → i < m → i < length gpus → mayCut (getD gpus i d) ≡ true → first (mayCutAt gpus) (m - i) i ≡ firstIdle gpus n → i ≡ firstIdle gpus n
-  idle-found i d h k t e =
-      sym (first-found (mayCutAt gpus) m i h (ap mayCut (getD-any gpus i noGpu d k) ∙ t)) ∙ e
+  pub idle-found : (i : ℕ) → i < m → mayCutAt gpus i ≡ true → first (mayCutAt gpus) (m - i) i ≡ firstIdle gpus n → i ≡ firstIdle gpus n
+  idle-found i h t e = sym (first-found (mayCutAt gpus) m i h t) ∙ e
 
   -- it may not
-  pub idle-next : (i : ℕ) (d : Gpu) → i < m → i < length gpus → mayCut (getD gpus i d) ≡ false → first (mayCutAt gpus) (m - i) i ≡ firstIdle gpus n → first (mayCutAt gpus) (m - (i + 1)) (i + 1) ≡ firstIdle gpus n
-  idle-next i d h k t e =
-      sym (first-next (mayCutAt gpus) m i h (ap mayCut (getD-any gpus i noGpu d k) ∙ t)) ∙ e
+  pub idle-next : (i : ℕ) → i < m → mayCutAt gpus i ≡ false → first (mayCutAt gpus) (m - i) i ≡ firstIdle gpus n → first (mayCutAt gpus) (m - (i + 1)) (i + 1) ≡ firstIdle gpus n
+  idle-next i h t e = sym (first-next (mayCutAt gpus) m i h t) ∙ e
 
   -- none may
   pub idle-end : (i : ℕ) → m ≤ i → i ≤ m → first (mayCutAt gpus) (m - i) i ≡ firstIdle gpus n → m ≡ firstIdle gpus n

@@ -1,8 +1,6 @@
 // The event room's entries.
 
-use crate::sizes::EVENTS;
 ghost use mathlib.Core.Path.{_≡_};
-ghost use lib.ListN.{getD, set};
 ghost use Rattle.model.specs.Event.{emptyEvent};
 
 pub enum EventKind {
@@ -31,23 +29,4 @@ pub fn empty_event() -> Event
         job: 0,
         generation: 0,
     }
-}
-
-pub fn event_at(events: [Event; EVENTS], i: usize) -> Event
-    ensures { λ r. ⌜ r ≡ getD events i emptyEvent ⌝ }
-{
-    if i < EVENTS {
-        return events[i];
-    }
-    empty_event()
-}
-
-pub fn put_event(events: [Event; EVENTS], i: usize, e: Event) -> [Event; EVENTS]
-    ensures { λ r. ⌜ r ≡ set events i e ⌝ }
-{
-    let mut table = events;
-    if i < EVENTS {
-        table[i] = e;
-    }
-    table
 }

@@ -1,6 +1,5 @@
 // A GPU of the table: what the trace says of it, its owner and the owners of its slices.
 
-use crate::sizes::GPUS;
 use crate::sizes::SLICES;
 ghost use mathlib.Core.Path.{_≡_};
 ghost use lib.ListN.{getD, set};
@@ -34,25 +33,6 @@ pub fn no_gpu() -> Gpu
         slices: 0,
         owners: [0; SLICES],
     }
-}
-
-pub fn gpu_at(gpus: [Gpu; GPUS], i: usize) -> Gpu
-    ensures { λ r. ⌜ r ≡ getD gpus i noGpu ⌝ }
-{
-    if i < GPUS {
-        return gpus[i];
-    }
-    no_gpu()
-}
-
-pub fn put_gpu(gpus: [Gpu; GPUS], i: usize, g: Gpu) -> [Gpu; GPUS]
-    ensures { λ r. ⌜ r ≡ set gpus i g ⌝ }
-{
-    let mut table = gpus;
-    if i < GPUS {
-        table[i] = g;
-    }
-    table
 }
 
 pub fn slice_owner_at(owners: [u16; SLICES], i: usize) -> u16

@@ -2,7 +2,7 @@
 
 use crate::sizes::JOBS;
 ghost use mathlib.Core.Path.{_≡_};
-ghost use lib.ListN.{getD, set};
+ghost use lib.ListN.{getD};
 ghost use Rattle.model.specs.Job.{noAsk, newJob, noJob};
 
 // Placed: chosen in the present pass and not yet started; no plan between two steps holds it.
@@ -99,14 +99,4 @@ pub fn job_at(jobs: [Job; JOBS], i: usize) -> Job
         return jobs[i];
     }
     no_job()
-}
-
-pub fn put_job(jobs: [Job; JOBS], i: usize, j: Job) -> [Job; JOBS]
-    ensures { λ r. ⌜ r ≡ set jobs i j ⌝ }
-{
-    let mut table = jobs;
-    if i < JOBS {
-        table[i] = j;
-    }
-    table
 }

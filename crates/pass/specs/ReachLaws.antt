@@ -1,16 +1,17 @@
--- A job that has too few GPUs within reach has too few eligible ones, now and after any candidates have left.
+-- A job that has too few GPUs within reach, for a gang on too few nodes, has too few eligible ones, now and after any candidates have left.
 use mathlib.Core.Path.{_≡_, refl, sym, ap, _∙_}
-use mathlib.Core.Bool.{Bool, true, false}
+use mathlib.Core.Bool.{Bool, true, false, _&&_}
 use mathlib.Core.List.{List, [], _∷_, map}
-use Prim.Native.Nat.{ℕ, suc, _+_, _-_, _*_, _/_, _%_, _≤_, _<_, min}
+use Prim.Native.Nat.{ℕ, zero, suc, _+_, _-_, _*_, _/_, _%_, _≤_, _<_, min}
 use native.Mathlib.Nat.{div-add-mod', mul-suc, mul-le-mul-left}
 use native.Mathlib.Omega.{arith}
 use lib.Dec.{eqb}
 use lib.ListN.{length, getD, List·getD-map}
-use borrow.Author.Tests.{eqb-true, leb-true, eq-eqb}
-use Rattle.laws.specs.Tests.{split, fails, and-both, both-and}
+use borrow.Author.Tests.{eqb-true, leb-true, le-leb, eq-eqb, ne-eqb}
+use Rattle.laws.specs.Tests.{split, fails, never-both, and-both, both-and}
 use Rattle.laws.specs.Lists.{All, all-weaken}
 use Rattle.laws.specs.Search.{those, those-each, those-distinct, those-more}
+use Rattle.laws.specs.Sort.{only}
 use Rattle.laws.specs.Sums.{sumOver}
 use Rattle.small.specs.Small.{plusOne, plus-one}
 use Rattle.model.specs.Gpu.{noGpu}
@@ -21,20 +22,20 @@ use Rattle.model.specs.declared.setting.Setting.{Setting}
 use Rattle.mig.specs.Owner.{withoutOwner, freed}
 use Rattle.cluster.specs.Gpus.{withOwner}
 use Rattle.eligible.specs.Rule.{eligible}
-use Rattle.eligible.specs.Chosen.{countOf}
+use Rattle.eligible.specs.Chosen.{keyed, withKey, countOf}
 use Rattle.eligible.specs.Keys.{nodeKeys}
 use Rattle.eligible.specs.Eligible.{siteOf, mayTake, eligibles}
 use Rattle.eligible.specs.Laws.{eligible-means}
 use Rattle.choice.specs.Gang.{enoughOn}
 use Rattle.choice.specs.Room.{counts-apart}
-use Rattle.choice.specs.Why.{isEnough, isGang, candidates, whyNot}
+use Rattle.choice.specs.Why.{isEnough, isGang, candidates, whyNotGang, whyNot}
 use Rattle.choice.specs.Choose.{whyNotHere}
-use Rattle.choice.specs.ChooseLaws.{gang-room, room-gang, room-others}
+use Rattle.choice.specs.ChooseLaws.{gang-room, room-count, room-gang, room-others}
 use Rattle.resource.specs.Cause.{placeable}
 use Rattle.resource.specs.AllocateLaws.{placeable-enough}
 use Rattle.preemptive.specs.Candidate.{candidateAt}
 use Rattle.preemptive.specs.Prefix.{freedAll}
-use Rattle.pass.specs.Stay.{mayBeFree, reachable, reachableAt, withinReach, free-then}
+use Rattle.pass.specs.Stay.{mayBeFree, reachable, reachableAt, reachables, isShort, free-then}
 
 -- ---- the eligible GPUs are within reach, and stay so when candidates leave
 
@@ -81,18 +82,26 @@ module _ (aware : Bool) (sites : List ℕ) (jobs : List Job) (ask : Ask) where
       freed-reachable v (getD gpus i noGpu) b t (rw e at h)
 
   -- when candidates leave no more come within reach
-  pub reach-freed : (gpus : List Gpu) (n : ℕ) (vs : List ℕ) → All (λ v. (v < 128) × (candidateAt aware jobs ask v ≡ true)) vs → withinReach aware (freedAll gpus vs) n sites jobs ask ≤ withinReach aware gpus n sites jobs ask
-  unfolding freedAll withinReach
-  reach-freed gpus n [] h = omega arith
-  reach-freed gpus n (v ∷ vs) h =
-      omega
-      (arith, reach-freed (map (freed (plusOne v)) gpus) n vs (h .1), those-more (reachableAt aware sites jobs ask (map (freed (plusOne v)) gpus)) (reachableAt aware sites jobs ask gpus) (min n 128) 0 (λ k a b t. reach-step v gpus k (omega (arith, h .0 .0)) (h .0 .1) t))
+  reach-freed : (gpus : List Gpu) (vs : List ℕ) (i : ℕ) → All (λ v. (v < 128) × (candidateAt aware jobs ask v ≡ true)) vs → reachableAt aware sites jobs ask (freedAll gpus vs) i ≡ true → reachableAt aware sites jobs ask gpus i ≡ true
+  unfolding freedAll
+  reach-freed gpus [] i h t = t
+  reach-freed gpus (v ∷ vs) i h t =
+      reach-step v gpus i (omega (arith, h .0 .0)) (h .0 .1) (reach-freed (map (freed (plusOne v)) gpus) vs i (h .1) t)
 
-  -- the eligible GPUs are among those within reach
-  pub reach-eligible : (gpus : List Gpu) (n : ℕ) → length (eligibles gpus n sites ask) ≤ withinReach aware gpus n sites jobs ask
-  unfolding eligibles withinReach
-  reach-eligible gpus n =
-      those-more (mayTake gpus sites ask) (reachableAt aware sites jobs ask gpus) (min n 128) 0 (λ k a b t. eligible-reachable (getD gpus k noGpu) t)
+  -- the GPUs that are eligible then are within reach now
+  reach-eligible : (gpus : List Gpu) (vs : List ℕ) (i : ℕ) → All (λ v. (v < 128) × (candidateAt aware jobs ask v ≡ true)) vs → mayTake (freedAll gpus vs) sites ask i ≡ true → reachableAt aware sites jobs ask gpus i ≡ true
+  reach-eligible gpus vs i h t = reach-freed gpus vs i h (eligible-reachable (getD (freedAll gpus vs) i noGpu) t)
+
+-- and they stand on the same nodes
+nodes-freed : (owner : ℕ) (gpus : List Gpu) → nodeKeys (map (freed owner) gpus) ≡ nodeKeys gpus
+unfolding nodeKeys freed
+nodes-freed owner [] = refl
+nodes-freed owner (g ∷ gpus) = ap (λ (l : List ℕ). g .node ∷ l) (nodes-freed owner gpus)
+
+nodes-kept : (gpus : List Gpu) (vs : List ℕ) → nodeKeys (freedAll gpus vs) ≡ nodeKeys gpus
+unfolding freedAll
+nodes-kept gpus [] = refl
+nodes-kept gpus (v ∷ vs) = nodes-kept (map (freed (plusOne v)) gpus) vs ∙ nodes-freed (plusOne v) gpus
 
 -- ---- a job with room has as many eligible GPUs as it asks for
 
@@ -118,7 +127,7 @@ module _ (nodes l : List ℕ) where
       (those-each (enoughOn nodes l per) 32 0) in
       omega (arith, sum-least (countOf nodes l) per ks e, counts-apart nodes ks l (those-distinct (enoughOn nodes l per) 32 0))
 
-  room-needs : (ask : Ask) → isEnough (whyNot nodes l ask) ≡ true → ask .count ≤ length l
+  pub room-needs : (ask : Ask) → isEnough (whyNot nodes l ask) ≡ true → ask .count ≤ length l
   room-needs ask h =
       split
       (isGang ask)
@@ -128,14 +137,72 @@ module _ (nodes l : List ℕ) where
       omega (arith, r .0, div-add-mod' (ask .count) (ask .nodes), b, nodes-hold per))
       (λ g. room-others nodes l ask g h)
 
+-- ---- where there is room, there is room among more
+
+-- a filter of those with a property
+only-those : (c p : ℕ → Bool) (m i : ℕ) → only c (those p m i) ≡ those (λ k. p k && c k) m i
+unfolding only those
+only-those c p zero i = refl
+only-those c p (suc m) i =
+    split
+    (p i)
+    (λ e. split (c i) (λ f. rw (e, f, only-those c p m (i + 1))) (λ f. rw (e, f, only-those c p m (i + 1))))
+    (λ e. rw (e, only-those c p m (i + 1)))
+
+module _ (nodes : List ℕ) (p q : ℕ → Bool) (m : ℕ) (more : (k : ℕ) → p k ≡ true → q k ≡ true) where
+  -- on each node
+  count-more : (node : ℕ) → countOf nodes (those p m 0) node ≤ countOf nodes (those q m 0) node
+  unfolding countOf withKey
+  count-more node =
+      rw (only-those (keyed nodes node) p m 0, only-those (keyed nodes node) q m 0)
+      (those-more (λ k. p k && keyed nodes node k) (λ k. q k && keyed nodes node k) m 0 (λ k a b t. let r : (p k ≡ true) × (keyed nodes node k ≡ true) = and-both (p k) (keyed nodes node k) t in
+      both-and (q k) (keyed nodes node k) (more k (r .0)) (r .1)))
+
+  -- on as many nodes
+  candidates-more : (per : ℕ) → length (candidates nodes (those p m 0) per) ≤ length (candidates nodes (those q m 0) per)
+  unfolding candidates
+  candidates-more per =
+      those-more
+      (enoughOn nodes (those p m 0) per)
+      (enoughOn nodes (those q m 0) per)
+      32
+      0
+      (λ k a b t. le-leb per (countOf nodes (those q m 0) k) (omega (arith, leb-true per (countOf nodes (those p m 0) k) t, count-more k)))
+
+  gang-more : (count g : ℕ) → isEnough (whyNotGang nodes (those p m 0) count g) ≡ true → isEnough (whyNotGang nodes (those q m 0) count g) ≡ true
+  unfolding whyNotGang
+  gang-more count g h =
+      let r : (count % g ≡ 0) × (g ≤ length (candidates nodes (those p m 0) (count / g))) = gang-room nodes (those p m 0) count g h in
+      rw (eq-eqb (count % g) 0 (r .0), le-leb g (length (candidates nodes (those q m 0) (count / g))) (omega (arith, r .1, candidates-more (count / g))))
+
+  room-more : (ask : Ask) → isEnough (whyNot nodes (those p m 0) ask) ≡ true → isEnough (whyNot nodes (those q m 0) ask) ≡ true
+  unfolding whyNot
+  room-more ask h =
+      let z : ask .count ≡ 0 → ⊥ = λ e. omega (arith, e, room-count nodes (those p m 0) ask h) in
+      split
+      (isGang ask)
+      (λ g. rw (ne-eqb (ask .count) 0 z, g) (gang-more (ask .count) (ask .nodes) (room-gang nodes (those p m 0) ask g h)))
+      (λ g. rw (ne-eqb (ask .count) 0 z, g, le-leb (ask .count) (length (those q m 0)) (omega (arith, room-others nodes (those p m 0) ask g h, those-more p q m 0 (λ k a b t. more k t)))))
+
 -- ---- so it is not placeable
 
-module _ (s : Setting) (jobs : List Job) (j : Job) (whole : eqb (j .ask .profile) 0 ≡ true) where
-  -- with fewer within reach than it asks for, when candidates have left
-  pub few-unplaceable : (gpus : List Gpu) (left : List Job) (vs : List ℕ) → withinReach (s .options .aware) gpus (s .gpus) (s .sites) jobs (j .ask) < j .ask .count → All (λ v. (v < 128) × (candidateAt (s .options .aware) jobs (j .ask) v ≡ true)) vs → placeable s (freedAll gpus vs) left j ≡ false
-  unfolding whyNotHere
-  few-unplaceable gpus left vs few h =
-      fails
-      (placeable s (freedAll gpus vs) left j)
-      (λ t. omega
-      (arith, few, reach-freed (s .options .aware) (s .sites) jobs (j .ask) gpus (s .gpus) vs h, reach-eligible (s .options .aware) (s .sites) jobs (j .ask) (freedAll gpus vs) (s .gpus), room-needs (nodeKeys (freedAll gpus vs)) (eligibles (freedAll gpus vs) (s .gpus) (s .sites) (j .ask)) (j .ask) (placeable-enough s (freedAll gpus vs) left j whole t)))
+-- room when candidates have left is room among those within reach
+room-freed : (aware : Bool) (sites : List ℕ) (jobs : List Job) (ask : Ask) (gpus : List Gpu) (n : ℕ) (vs : List ℕ) → All (λ v. (v < 128) × (candidateAt aware jobs ask v ≡ true)) vs → isEnough (whyNotHere (freedAll gpus vs) n sites ask) ≡ true → isEnough (whyNot (nodeKeys gpus) (reachables aware gpus n sites jobs ask) ask) ≡ true
+unfolding whyNotHere eligibles reachables
+room-freed aware sites jobs ask gpus n vs h t =
+    room-more
+    (nodeKeys gpus)
+    (mayTake (freedAll gpus vs) sites ask)
+    (reachableAt aware sites jobs ask gpus)
+    (min n 128)
+    (λ k e. reach-eligible aware sites jobs ask gpus vs k h e)
+    ask
+    (rw (nodes-kept gpus vs) at t)
+
+-- with too few within reach, when candidates have left
+pub short-unplaceable : (s : Setting) (jobs : List Job) (j : Job) → eqb (j .ask .profile) 0 ≡ true → (gpus : List Gpu) (left : List Job) (vs : List ℕ) → isShort s gpus jobs (j .ask) ≡ true → All (λ v. (v < 128) × (candidateAt (s .options .aware) jobs (j .ask) v ≡ true)) vs → placeable s (freedAll gpus vs) left j ≡ false
+unfolding isShort
+short-unplaceable s jobs j whole gpus left vs short h =
+    fails
+    (placeable s (freedAll gpus vs) left j)
+    (λ t. never-both (rw (room-freed (s .options .aware) (s .sites) jobs (j .ask) gpus (s .gpus) vs h (placeable-enough s (freedAll gpus vs) left j whole t)) at short) refl)

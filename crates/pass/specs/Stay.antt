@@ -1,17 +1,16 @@
 -- A waiting job is seen to stay: too few GPUs or over its quota even if every candidate for it left; no slices for a MIG job.
-use mathlib.Core.Path.{_≡_, ap, _∙_}
+use mathlib.Core.Path.{_≡_, sym, ap, _∙_}
 use mathlib.Core.Bool.{Bool, true, false, not, _&&_, _||_}
-use mathlib.Core.List.{List, [], _∷_}
+use mathlib.Core.List.{List}
 use Prim.Native.Nat.{ℕ, _+_, _-_, _≤_, _<_, min}
 use native.Mathlib.Omega.{arith}
-use lib.Dec.{eqb, ltb, leb}
-use lib.ListN.{length, getD, take, length-append}
-use borrow.Author.Tests.{eq-eqb, ne-eqb, le-leb, leb-true, leb-false, lt-leb, lt-ltb, le-ltb}
+use lib.Dec.{eqb, leb}
+use lib.ListN.{length, getD, take}
+use borrow.Author.Tests.{eq-eqb, ne-eqb, le-leb, leb-true, leb-false, lt-leb}
 use Rattle.laws.specs.Choice.{pick}
 use Rattle.laws.specs.Tests.{split}
-use Rattle.laws.specs.Search.{those, those-next-take, those-next-skip}
-use Rattle.laws.specs.Sums.{sumOver, bit, sum-next}
-use Rattle.laws.specs.Tables.{getD-any}
+use Rattle.laws.specs.Search.{those}
+use Rattle.laws.specs.Sums.{sumOver, sum-next}
 use Rattle.model.specs.Sizes as Sizes
 use Rattle.model.specs.Gpu.{noGpu}
 use Rattle.model.specs.Job.{noJob}
@@ -23,7 +22,10 @@ use Rattle.cluster.specs.Gpus.{withOwner}
 use Rattle.cluster.specs.Usage.{chargeTo}
 use Rattle.mig.specs.More.{take-least}
 use Rattle.eligible.specs.Rule.{eligible}
+use Rattle.eligible.specs.Keys.{nodeKeys}
 use Rattle.eligible.specs.Eligible.{siteOf}
+use Rattle.choice.specs.Why.{isEnough, whyNot}
+use Rattle.choice.specs.declared.why.Why.{Why}
 use Rattle.resource.specs.Quota.{keptQuota}
 use Rattle.resource.specs.Cause.{resourceCause, isNone}
 use Rattle.preemptive.specs.Candidate.{candidate, candidateAt}
@@ -40,9 +42,13 @@ reachable aware sites jobs ask g = eligible ask (siteOf sites g) (withOwner 0 g)
 abbrev pub reachableAt : Bool → List ℕ → List Job → Ask → List Gpu → ℕ → Bool
 reachableAt aware sites jobs ask gpus i = reachable aware sites jobs ask (getD gpus i noGpu)
 
--- how many of the first n GPUs it could have
-unfoldable pub withinReach : Bool → List Gpu → ℕ → List ℕ → List Job → Ask → ℕ
-withinReach aware gpus n sites jobs ask = length (those (reachableAt aware sites jobs ask gpus) (min n Sizes.gpus) 0)
+-- those of the first n GPUs that it could have
+unfoldable pub reachables : Bool → List Gpu → ℕ → List ℕ → List Job → Ask → List ℕ
+reachables aware gpus n sites jobs ask = those (reachableAt aware sites jobs ask gpus) (min n Sizes.gpus) 0
+
+-- too few GPUs even then
+unfoldable pub isShort : Setting → List Gpu → List Job → Ask → Bool
+isShort s gpus jobs ask = not (isEnough (whyNot (nodeKeys gpus) (reachables (s .options .aware) gpus (s .gpus) (s .sites) jobs ask) ask))
 
 -- what a job costs the tenant now, also if every candidate left
 unfoldable pub keptCharge : Bool → Ask → Job → ℕ
@@ -60,7 +66,7 @@ isOver s jobs ask =
     (leb (keptQuota s (ask .tenant)) (usedAtLeast (s .options .aware) (s .jobs) jobs ask + ask .count)))
 
 unfoldable pub wholeStays : Setting → List Gpu → List Job → Ask → Bool
-wholeStays s gpus jobs ask = ltb (withinReach (s .options .aware) gpus (s .gpus) (s .sites) jobs ask) (ask .count) || isOver s jobs ask
+wholeStays s gpus jobs ask = isShort s gpus jobs ask || isOver s jobs ask
 
 -- The visit of the job would change nothing.
 unfoldable pub stay : Setting → List Gpu → List Job → ℕ → Bool
@@ -120,14 +126,19 @@ module _ (s : Setting) (jobs : List Job) (ask : Ask) where
               (λ e. let p : kept - used ≤ count = leb-true (kept - used) count e in let q : kept ≤ used + count = omega arith in rw (e, le-leb kept (used + count) q))
               (λ e. let p : count < kept - used = leb-false (kept - used) count e in let q : used + count < kept = omega arith in rw (e, lt-leb kept (used + count) q))
 
-module _ (s : Setting) (gpus : List Gpu) (jobs : List Job) (ask : Ask) (n : ℕ) (is : n ≡ withinReach (s .options .aware) gpus (s .gpus) (s .sites) jobs ask) where
-  pub whole-few : n < ask .count → true ≡ wholeStays s gpus jobs ask
-  unfolding wholeStays
-  whole-few h = rw (← is, lt-ltb n (ask .count) h)
+module _ (s : Setting) (gpus : List Gpu) (jobs : List Job) (ask : Ask) where
+  -- the keys may be any that give the same cause
+  pub short-looked : (why : Why) (keys l : List ℕ) → why ≡ whyNot keys l ask → whyNot keys l ask ≡ whyNot (nodeKeys gpus) l ask → l ≡ reachables (s .options .aware) gpus (s .gpus) (s .sites) jobs ask → not (isEnough why) ≡ isShort s gpus jobs ask
+  unfolding isShort
+  short-looked why keys l e f g = rw (e, f, g)
 
-  pub whole-enough : ask .count ≤ n → isOver s jobs ask ≡ wholeStays s gpus jobs ask
+  pub whole-short : isShort s gpus jobs ask ≡ true → true ≡ wholeStays s gpus jobs ask
   unfolding wholeStays
-  whole-enough h = rw (← is, le-ltb n (ask .count) h)
+  whole-short h = rw h
+
+  pub whole-enough : isShort s gpus jobs ask ≡ false → isOver s jobs ask ≡ wholeStays s gpus jobs ask
+  unfolding wholeStays
+  whole-enough h = rw h
 
 module _ (s : Setting) (gpus : List Gpu) (jobs : List Job) (id : ℕ) (j : Job) (is : j ≡ getD jobs id noJob) where
   pub stay-other : waits j ≡ false → true ≡ stay s gpus jobs id
@@ -144,27 +155,9 @@ module _ (s : Setting) (gpus : List Gpu) (jobs : List Job) (id : ℕ) (j : Job) 
 
 -- ---- the turns of the loops
 
--- a test counts for one at most
-pub bit-most : (b : Bool) → bit b ≤ 1
-bit-most true = omega arith
-bit-most false = omega arith
-
--- a turn counts the number at hand if it has the property
-pub count-turn : (p : ℕ → Bool) (i k : ℕ) (b : Bool) (r : ℕ) → k ≡ length (those p i 0) → b ≡ p i → r ≡ bit b → k + r ≡ length (those p (i + 1) 0)
-count-turn p i k b r e f g =
-    split
-    (p i)
-    (λ t. let one : r ≡ 1 = g ∙ ap bit (f ∙ t) in rw (those-next-take p i t) (omega (arith, e, one, length-append (those p i 0) (i ∷ []))))
-    (λ t. let none : r ≡ 0 = g ∙ ap bit (f ∙ t) in rw (those-next-skip p i t) (omega (arith, e, none)))
-
 -- the test of the code is that of the definition
-pub reachable-is : (aware : Bool) (sites : List ℕ) (jobs : List Job) (ask : Ask) (gpus : List Gpu) (i : ℕ) (d : Gpu) (r : Bool) → i < length gpus → r ≡ reachable aware sites jobs ask (getD gpus i d) → r ≡ reachableAt aware sites jobs ask gpus i
-reachable-is aware sites jobs ask gpus i d r h e = e ∙ ap (reachable aware sites jobs ask) (getD-any gpus i d noGpu h)
-
--- past the last GPU all are counted
-pub reach-end : (aware : Bool) (gpus : List Gpu) (n : ℕ) (sites : List ℕ) (jobs : List Job) (ask : Ask) (m i : ℕ) → m ≡ min n 128 → i ≡ m → length (those (reachableAt aware sites jobs ask gpus) i 0) ≡ withinReach aware gpus n sites jobs ask
-unfolding withinReach
-reach-end aware gpus n sites jobs ask m i e h = rw (h, e)
+pub reach-read : (aware : Bool) (sites : List ℕ) (jobs : List Job) (ask : Ask) (gpus : List Gpu) (i : ℕ) (g : Gpu) (r : Bool) → g ≡ getD gpus i noGpu → r ≡ reachable aware sites jobs ask g → reachableAt aware sites jobs ask gpus i ≡ r
+reach-read aware sites jobs ask gpus i g r e f = sym (f ∙ rw e)
 
 -- a turn adds what the job at hand costs
 pub used-turn : (aware : Bool) (jobs : List Job) (ask : Ask) (i sum r : ℕ) (j : Job) → i < length jobs → sum ≡ sumOver (keptCharge aware ask) (take i jobs) → j ≡ getD jobs i noJob → r ≡ keptCharge aware ask j → sum + r ≡ sumOver (keptCharge aware ask) (take (i + 1) jobs)

@@ -5,10 +5,10 @@ use mathlib.Core.Bool.{true, false, not}
 use mathlib.Core.List.{List, []}
 use Prim.Native.Nat.{ℕ, _+_, _-_, _≤_, _<_, min}
 use native.Mathlib.Omega.{arith}
-use lib.Dec.{eqb, ltb}
+use lib.Dec.{eqb}
 use lib.ListN.{length, getD, take}
 use lib.Ieee.{Float}
-use borrow.Author.Tests.{eqb-true, eqb-false, ltb-true, lt-leb}
+use borrow.Author.Tests.{eqb-true, eqb-false, lt-leb}
 use Rattle.laws.specs.Tests.{split, fails, never-both, or-cases}
 use Rattle.laws.specs.Lists.{All, all-weaken, all-take}
 use Rattle.laws.specs.Search.{has, first, first-none, those-each}
@@ -27,8 +27,8 @@ use Rattle.preemptive.specs.Prefix.{freedAll, evictedAll, opens, shortest, made
 use Rattle.line.specs.Keep.{waits}
 use Rattle.pass.specs.Visit.{allocation, preempting-none, considered, considered-whole, considered-mig, visited, visited-other, visited-victim, visited-waiting}
 use Rattle.pass.specs.Walk.{visitAt}
-use Rattle.pass.specs.Stay.{withinReach, isOver, wholeStays, stay}
-use Rattle.pass.specs.ReachLaws.{few-unplaceable}
+use Rattle.pass.specs.Stay.{isShort, isOver, wholeStays, stay}
+use Rattle.pass.specs.ReachLaws.{short-unplaceable}
 use Rattle.pass.specs.OverLaws.{over-unplaceable}
 use Rattle.pass.specs.declared.visit.Pass.{Pass}
 
@@ -76,11 +76,10 @@ module _ (s : Setting) (clock : Float) (gpus : List Gpu) (jobs : List Job) (j : 
     whole-stuck : (vs : List ℕ) → All (λ v. (v < 128) × (candidateAt (s .options .aware) jobs (j .ask) v ≡ true)) vs → placeable s (freedAll gpus vs) (evictedAll clock jobs vs) j ≡ false
     unfolding wholeStays
     whole-stuck vs h =
-        let n : ℕ = withinReach (s .options .aware) gpus (s .gpus) (s .sites) jobs (j .ask) in
         ⊎-elim
-        (λ e. few-unplaceable s jobs j whole gpus (evictedAll clock jobs vs) vs (ltb-true n (j .ask .count) e) h)
+        (λ e. short-unplaceable s jobs j whole gpus (evictedAll clock jobs vs) vs e h)
         (λ e. over-unplaceable s jobs j e clock (freedAll gpus vs) vs h)
-        (or-cases (ltb n (j .ask .count)) (isOver s jobs (j .ask)) stays)
+        (or-cases (isShort s gpus jobs (j .ask)) (isOver s jobs (j .ask)) stays)
 
     -- nor as things stand
     whole-unplaceable : placeable s gpus jobs j ≡ false

@@ -1,5 +1,5 @@
 -- A job is looked at: placed if it can be; a whole-GPU job that can't may preempt.
-use mathlib.Core.Path.{_≡_, _∙_}
+use mathlib.Core.Path.{_≡_, sym, _∙_}
 use mathlib.Core.Bool.{true, false}
 use mathlib.Core.List.{List}
 use Prim.Native.Nat.{ℕ}
@@ -18,13 +18,15 @@ use Rattle.model.specs.declared.job.Job.{Job}
 use Rattle.model.specs.declared.setting.Setting.{Setting}
 use Rattle.life.specs.Life as Life
 use Rattle.resource.specs.Allocate.{allocated}
+use Rattle.resource.specs.AllocateLaws.{placed-placeable, unplaced-same}
 use Rattle.resource.specs.declared.allocate.Allocation.{Allocation}
-use Rattle.preemptive.specs.Prefix.{evictedAll, made, preempted}
+use Rattle.preemptive.specs.Prefix.{freedAll, evictedAll, made, preempted}
 use Rattle.preemptive.specs.declared.prefix.Preempted.{Preempted}
 use Rattle.starts.specs.Begin.{noPlacing}
 use Rattle.line.specs.Line.{joinedAll}
 use Rattle.line.specs.Keep.{waits}
 use Rattle.line.specs.declared.join.Line.{Line}
+use Rattle.rows.specs.Gpu.{gpusOf}
 use Rattle.rows.specs.Job.{jobsOf}
 use Rattle.pass.specs.declared.visit.Pass.{Pass}
 use Rattle.pass.specs.declared.visit.Turn.{Turn}
@@ -33,13 +35,17 @@ use Rattle.pass.specs.declared.visit.Turn.{Turn}
 unfoldable pub newPass : List Gpu → List Job → Line → Pass
 newPass gpus jobs line = record { gpus = gpus; jobs = jobs; line = line; placed = replicate Sizes.jobs noPlacing; count = 0 }
 
--- the same beside the table of jobs
-unfoldable pub newTurn : List Gpu → Line → Turn
-newTurn gpus line = record { gpus = gpus; line = line; placed = replicate Sizes.jobs noPlacing; count = 0 }
+-- the same beside the tables
+unfoldable pub newTurn : Line → Turn
+newTurn line = record { line = line; placed = replicate Sizes.jobs noPlacing; count = 0 }
 
--- the pass, with the table of jobs that was lent
-abbrev pub wholePass : Turn → List (List ℕ) → Pass
-wholePass t jobs = record { gpus = t .gpus; jobs = jobsOf jobs; line = t .line; placed = t .placed; count = t .count }
+-- the pass, with the tables of GPUs and jobs that were lent
+abbrev pub wholePass : Turn → List (List ℕ) → List (List ℕ) → Pass
+wholePass t gpus jobs = record { gpus = gpusOf gpus; jobs = jobsOf jobs; line = t .line; placed = t .placed; count = t .count }
+
+-- the pass with other tables
+abbrev pub withTables : Pass → List Gpu → List Job → Pass
+withTables p gpus jobs = record { gpus = gpus; jobs = jobs; line = p .line; placed = p .placed; count = p .count }
 
 -- What the job gets as things stand.
 abbrev pub allocation : Setting → Pass → ℕ → Job → Allocation
@@ -115,21 +121,47 @@ module _ (s : Setting) (p : Pass) (id : ℕ) (j : Job) (got : Allocation) (is : 
   unfolding considered
   considered-mig clock f z = let u : allocation s p id j .placed ≡ false = rw (← is) f in rw (u, ne-eqb (j .ask .profile) 0 z)
 
--- where nobody leaves the jobs stay as they are
-nobody-left : (s : Setting) (clock : Float) (gpus : List Gpu) (jobs : List Job) (j : Job) → preempted s clock gpus jobs j .count ≡ 0 → preempted s clock gpus jobs j .jobs ≡ jobs
-unfolding preempted made evictedAll
-nobody-left s clock gpus jobs j z = rw z
+module _ (s : Setting) (p : Pass) (id : ℕ) (j : Job) (got : Allocation) (is : got ≡ allocation s p id j) where
+  -- where it is not placed the GPUs stay as they are
+  not-given : got .placed ≡ false → got .gpus ≡ p .gpus
+  not-given f =
+      rw is (unplaced-same s (p .gpus) (p .jobs) j (plusOne id) (sym (placed-placeable s (p .gpus) (p .jobs) j (plusOne id)) ∙ rw (← is) f))
+
+  -- the table of GPUs is the one that allocation gave back, whatever it was
+  pub settled-given : (r : Pass) (gpus : List Gpu) → got .placed ≡ true → r ≡ placedAs (withTables p gpus (p .jobs)) id j got → r ≡ settled s p id j
+  unfolding placedAs
+  settled-given r gpus t e = settled-placed s p id j got is r t e
+
+  pub settled-none : got .placed ≡ false → withTables p (got .gpus) (p .jobs) ≡ settled s p id j
+  settled-none f = rw (not-given f) (settled-not s p id j got is f)
+
+  pub considered-given : (clock : Float) (r : Pass) (gpus : List Gpu) → got .placed ≡ true → r ≡ placedAs (withTables p gpus (p .jobs)) id j got → r ≡ considered s clock p id j
+  unfolding placedAs
+  considered-given clock r gpus t e = considered-placed s p id j got is clock r t e
+
+  pub considered-then : (clock : Float) (r : Pass) → got .placed ≡ false → j .ask .profile ≡ 0 → r ≡ preempting s clock (withTables p (got .gpus) (p .jobs)) id j → r ≡ considered s clock p id j
+  considered-then clock r f z e = considered-whole s p id j got is clock r f z (e ∙ rw (not-given f))
+
+  pub considered-none : (clock : Float) → got .placed ≡ false → (j .ask .profile ≡ 0 → ⊥) → withTables p (got .gpus) (p .jobs) ≡ considered s clock p id j
+  considered-none clock f z = rw (not-given f) (considered-mig s p id j got is clock f z)
+
+-- where nobody leaves the tables stay as they are
+nobody-left : (s : Setting) (clock : Float) (gpus : List Gpu) (jobs : List Job) (j : Job) → preempted s clock gpus jobs j .count ≡ 0 → (preempted s clock gpus jobs j .gpus ≡ gpus) × (preempted s clock gpus jobs j .jobs ≡ jobs)
+unfolding preempted made freedAll evictedAll
+nobody-left s clock gpus jobs j z = (rw z, rw z)
 
 module _ (s : Setting) (clock : Float) (p : Pass) (id : ℕ) (j : Job) (got : Preempted) (is : got ≡ preempted s clock (p .gpus) (p .jobs) j) where
   pub preempting-none : got .count ≡ 0 → p ≡ preempting s clock p id j
   unfolding preempting
   preempting-none z = let u : preempted s clock (p .gpus) (p .jobs) j .count ≡ 0 = rw (← is) z in rw (eq-eqb (preempted s clock (p .gpus) (p .jobs) j .count) 0 u)
 
-  pub preempting-nobody : (r : Pass) → got .count ≡ 0 → r ≡ record { gpus = p .gpus; jobs = got .jobs; line = p .line; placed = p .placed; count = p .count } → r ≡ preempting s clock p id j
+  -- the tables are those that preemption gave back
+  pub preempting-nobody : (r : Pass) → got .count ≡ 0 → r ≡ withTables p (got .gpus) (got .jobs) → r ≡ preempting s clock p id j
   preempting-nobody r z e =
       let u : preempted s clock (p .gpus) (p .jobs) j .count ≡ 0 = rw (← is) z in
-      let k : got .jobs ≡ p .jobs = rw is (nobody-left s clock (p .gpus) (p .jobs) j u) in
-      e ∙ rw k (preempting-none z)
+      let g : got .gpus ≡ p .gpus = rw is (nobody-left s clock (p .gpus) (p .jobs) j u .0) in
+      let k : got .jobs ≡ p .jobs = rw is (nobody-left s clock (p .gpus) (p .jobs) j u .1) in
+      e ∙ rw (g, k) (preempting-none z)
 
   pub preempting-some : (r way : Pass) → (got .count ≡ 0 → ⊥) → way ≡ madeWay clock p id got → r ≡ settled s way id j → r ≡ preempting s clock p id j
   unfolding preempting
@@ -137,10 +169,10 @@ module _ (s : Setting) (clock : Float) (p : Pass) (id : ℕ) (j : Job) (got : Pr
       let u : preempted s clock (p .gpus) (p .jobs) j .count ≡ 0 → ⊥ = rw (← is) z in
       e ∙ rw (ne-eqb (preempted s clock (p .gpus) (p .jobs) j .count) 0 u, w, is)
 
-  -- the jobs are those that preemption gave back, whatever they were
-  pub preempting-way : (r way : Pass) (others : List Job) → (got .count ≡ 0 → ⊥) → way ≡ madeWay clock (record { gpus = p .gpus; jobs = others; line = p .line; placed = p .placed; count = p .count }) id got → r ≡ settled s way id j → r ≡ preempting s clock p id j
+  -- the tables are those that preemption gave back, whatever they were
+  pub preempting-way : (r way : Pass) (gpus : List Gpu) (jobs : List Job) → (got .count ≡ 0 → ⊥) → way ≡ madeWay clock (withTables p gpus jobs) id got → r ≡ settled s way id j → r ≡ preempting s clock p id j
   unfolding madeWay
-  preempting-way r way others z w e = preempting-some r way z w e
+  preempting-way r way gpus jobs z w e = preempting-some r way z w e
 
 module _ (s : Setting) (clock : Float) (p : Pass) (id : ℕ) (j : Job) (is : j ≡ getD (p .jobs) id noJob) where
   pub visited-other : waits j ≡ false → p ≡ visited s clock p id

@@ -1,7 +1,13 @@
 // Most waiting jobs are seen to stay at one look: not placeable even if every candidate for them left.
 
+use crate::rank::low_ranks;
+use choice::choose::keys_for;
+use choice::why::is_enough;
+use choice::why::why_not;
 use cluster::gpus::with_owner;
 use cluster::usage::charge_to;
+use eligible::chosen::Chosen;
+use eligible::chosen::no_ids;
 use eligible::rule::eligible_gpu;
 use line::keep::is_waiting;
 use model::gpu::Gpu;
@@ -16,16 +22,20 @@ use model::sizes::NODES;
 use preemptive::candidate::is_candidate;
 use resource::cause::is_none;
 use resource::cause::resource_cause;
+use rows::gpu::CARD;
+use rows::gpu::read_gpu;
 use rows::job::ROW;
 use rows::job::job_places;
 use rows::job::read_job;
 use small::lesser;
-use small::one_if;
 use small::wide;
 use small::wide_id;
 ghost use mathlib.Core.Path.{_≡_};
+ghost use Rattle.rows.specs.Gpu.{gpusOf};
 ghost use Rattle.rows.specs.Job.{jobsOf};
-ghost use Rattle.pass.specs.Stay.{mayBeFree, reachable, withinReach, keptCharge, usedAtLeast, isOver, wholeStays, stay};
+ghost use Rattle.eligible.specs.Chosen.{chosen};
+ghost use Rattle.pass.specs.Rank.{ranksOf, lowAt};
+ghost use Rattle.pass.specs.Stay.{mayBeFree, reachable, reachables, isShort, keptCharge, usedAtLeast, isOver, wholeStays, stay};
 
 // Whether a GPU is nobody's, or would be if every candidate left.
 fn may_be_free(aware: bool, jobs: &[[u64; ROW]; JOBS], ask: Ask, owner: u16) -> bool
@@ -55,25 +65,43 @@ fn is_reachable(
     false
 }
 
-// How many of the first n GPUs the job could have if every candidate left.
+// Whether the rank of a GPU is low enough for the job.
+fn is_low(ranks: &[u64], i: usize, ask: Ask) -> bool
+    ensures { λ r. ⌜ r ≡ lowAt (now (ranks .entry)) (ask .priority) i ⌝ }
+{
+    if i < ranks.len() {
+        return ranks[i] <= ask.priority as u64;
+    }
+    false
+}
+
+// Those of the first n GPUs that the job could have if every candidate left.
 fn within_reach(
     aware: bool,
-    gpus: [Gpu; GPUS],
+    gpus: &[[u64; CARD]; GPUS],
     n: usize,
     sites: [u8; NODES],
     jobs: &[[u64; ROW]; JOBS],
+    ranks: &[u64; GPUS],
     ask: Ask,
-) -> usize
-    ensures { λ r. ⌜ r ≡ withinReach aware gpus n sites (jobsOf (now (jobs .entry))) ask ⌝ }
+) -> Chosen
+    requires { ⌜ now ranks ≡ ranksOf (gpusOf (now gpus)) (jobsOf (now jobs)) n ⌝ }
+    ensures { λ r. ⌜ r ≡ chosen (reachables aware (gpusOf (now (gpus .entry))) n sites (jobsOf (now (jobs .entry))) ask) ⌝ }
 {
     let m = lesser(n, GPUS);
+    let mut ids = no_ids();
     let mut k: usize = 0;
     let mut i: usize = 0;
     while i < m {
-        k = k + one_if(is_reachable(aware, sites, jobs, ask, gpus[i]));
+        if is_low(ranks, i, ask) {
+            if is_reachable(aware, sites, jobs, ask, read_gpu(gpus, i)) {
+                ids[k] = i as u16;
+                k = k + 1;
+            }
+        }
         i = i + 1;
     }
-    k
+    Chosen { ids: ids, count: k }
 }
 
 // What a job costs the tenant now, also if every candidate left.
@@ -120,27 +148,59 @@ fn is_over(setting: Setting, jobs: &[[u64; ROW]; JOBS], ask: Ask) -> bool
     kept - used <= ask.count as u64
 }
 
-fn whole_stays(setting: Setting, gpus: [Gpu; GPUS], jobs: &[[u64; ROW]; JOBS], ask: Ask) -> bool
-    ensures { λ r. ⌜ r ≡ wholeStays setting gpus (jobsOf (now (jobs .entry))) ask ⌝ }
+// Too few GPUs even then.
+fn is_short(
+    setting: Setting,
+    gpus: &[[u64; CARD]; GPUS],
+    jobs: &[[u64; ROW]; JOBS],
+    ranks: &[u64; GPUS],
+    ask: Ask,
+) -> bool
+    requires { ⌜ now ranks ≡ ranksOf (gpusOf (now gpus)) (jobsOf (now jobs)) (setting .gpus) ⌝ }
+    ensures { λ r. ⌜ r ≡ isShort setting (gpusOf (now (gpus .entry))) (jobsOf (now (jobs .entry))) ask ⌝ }
 {
+    let n = setting.gpus as usize;
+    if low_ranks(ranks, n, ask.priority as u64) < ask.count as usize {
+        return true;
+    }
     let options = setting.options;
     let sites = setting.sites;
-    let n = within_reach(options.aware, gpus, setting.gpus as usize, sites, jobs, ask);
-    if n < ask.count as usize {
+    let e = within_reach(options.aware, gpus, n, sites, jobs, ranks, ask);
+    !is_enough(why_not(e, keys_for(gpus, ask), ask))
+}
+
+fn whole_stays(
+    setting: Setting,
+    gpus: &[[u64; CARD]; GPUS],
+    jobs: &[[u64; ROW]; JOBS],
+    ranks: &[u64; GPUS],
+    ask: Ask,
+) -> bool
+    requires { ⌜ now ranks ≡ ranksOf (gpusOf (now gpus)) (jobsOf (now jobs)) (setting .gpus) ⌝ }
+    ensures { λ r. ⌜ r ≡ wholeStays setting (gpusOf (now (gpus .entry))) (jobsOf (now (jobs .entry))) ask ⌝ }
+{
+    if is_short(setting, gpus, jobs, ranks, ask) {
         return true;
     }
     is_over(setting, jobs, ask)
 }
 
 // The visit of the job would change nothing.
-pub fn stays(setting: Setting, gpus: [Gpu; GPUS], jobs: &[[u64; ROW]; JOBS], id: u16) -> bool
-    ensures { λ r. ⌜ r ≡ stay setting gpus (jobsOf (now (jobs .entry))) id ⌝ }
+pub fn stays(
+    setting: Setting,
+    gpus: &[[u64; CARD]; GPUS],
+    jobs: &[[u64; ROW]; JOBS],
+    ranks: &[u64; GPUS],
+    id: u16,
+) -> bool
+    requires { ⌜ now ranks ≡ ranksOf (gpusOf (now gpus)) (jobsOf (now jobs)) (setting .gpus) ⌝ }
+    ensures { λ r. ⌜ r ≡ stay setting (gpusOf (now (gpus .entry))) (jobsOf (now (jobs .entry))) id ⌝ }
 {
     let j = read_job(jobs, wide_id(id));
     if is_waiting(j) {
         let ask = j.ask;
         if ask.profile == 0 {
-            return whole_stays(setting, gpus, jobs, ask);
+            return whole_stays(setting, gpus, jobs, ranks, ask);
         }
         return !is_none(resource_cause(setting, gpus, j));
     }

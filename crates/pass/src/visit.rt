@@ -11,8 +11,9 @@ use model::sizes::GPUS;
 use model::sizes::JOBS;
 use preemptive::prefix::Way;
 use preemptive::prefix::preempt;
-use resource::allocate::Allocation;
+use resource::allocate::Got;
 use resource::allocate::allocate;
+use rows::gpu::CARD;
 use rows::job::ROW;
 use rows::job::read_job;
 use rows::job::write_job;
@@ -23,8 +24,11 @@ use starts::begin::Placing;
 use starts::begin::no_placing;
 ghost use mathlib.Core.Path.{_≡_};
 ghost use Rattle.preemptive.specs.Prefix.{wholePreempted};
+ghost use mathlib.Core.List.{List};
+ghost use Prim.Native.Nat.{ℕ};
 ghost use lib.ListN.{set};
-ghost use Rattle.pass.specs.Visit.{newTurn, wholePass, allocation, placedAs, settled, madeWay, preempting, considered, visited};
+ghost use Rattle.resource.specs.Allocate.{wholeAllocation};
+ghost use Rattle.pass.specs.Visit.{newTurn, wholePass, placedAs, settled, madeWay, preempting, considered, visited};
 
 // placed holds the jobs placed so far, count of them, in the order of placing.
 pub struct Pass {
@@ -35,19 +39,17 @@ pub struct Pass {
     pub count: usize,
 }
 
-// The same without the table of jobs, which is lent.
+// The same without the tables of GPUs and jobs, which are lent.
 pub struct Turn {
-    pub gpus: [Gpu; GPUS],
     pub line: Line,
     pub placed: [Placing; JOBS],
     pub count: usize,
 }
 
-pub fn new_turn(gpus: [Gpu; GPUS], line: Line) -> Turn
-    ensures { λ r. ⌜ r ≡ newTurn gpus line ⌝ }
+pub fn new_turn(line: Line) -> Turn
+    ensures { λ r. ⌜ r ≡ newTurn line ⌝ }
 {
     Turn {
-        gpus: gpus,
         line: line,
         placed: [no_placing(); JOBS],
         count: 0,
@@ -65,11 +67,9 @@ fn put_placing(placed: [Placing; JOBS], i: usize, p: Placing) -> [Placing; JOBS]
 }
 
 // The job has what was allocated to it, and starts when the pass is over.
-fn place_as(jobs: &mut [[u64; ROW]; JOBS], turn: Turn, id: u16, j: Job, got: Allocation) -> Turn
-    ensures { λ r. ⌜ wholePass r (now (jobs .exit)) ≡ placedAs (wholePass turn (now (jobs .entry))) id j got ⌝ }
+fn place_as(jobs: &mut [[u64; ROW]; JOBS], turn: Turn, id: u16, j: Job, got: Got) -> Turn
+    ensures { λ r. ⌜ ((gpus : List (List ℕ)) → wholePass r gpus (now (jobs .exit)) ≡ placedAs (wholePass turn gpus (now (jobs .entry))) id j (wholeAllocation got gpus)) ⌝ }
 {
-    let gpus = got.gpus;
-    let line = turn.line;
     let placed = turn.placed;
     let p = Placing {
         job: id,
@@ -77,32 +77,25 @@ fn place_as(jobs: &mut [[u64; ROW]; JOBS], turn: Turn, id: u16, j: Job, got: All
         penalised: got.penalised,
     };
     write_job(jobs, wide_id(id), life::place(j));
-    Turn {
-        gpus: gpus,
-        line: line,
-        placed: put_placing(placed, turn.count, p),
-        count: onward(turn.count, JOBS),
-    }
-}
-
-fn allocation(
-    setting: Setting,
-    jobs: &[[u64; ROW]; JOBS],
-    turn: Turn,
-    id: u16,
-    j: Job,
-) -> Allocation
-    ensures { λ r. ⌜ r ≡ allocation setting (wholePass turn (now (jobs .entry))) id j ⌝ }
-{
-    let gpus = turn.gpus;
-    allocate(setting, gpus, jobs, j, plus_one(id))
+    let placings = put_placing(placed, turn.count, p);
+    let mut after = turn;
+    after.placed = placings;
+    after.count = onward(turn.count, JOBS);
+    after
 }
 
 // After the evictions for the job it is placed if it can be.
-fn settle(setting: Setting, jobs: &mut [[u64; ROW]; JOBS], turn: Turn, id: u16, j: Job) -> Turn
-    ensures { λ r. ⌜ wholePass r (now (jobs .exit)) ≡ settled setting (wholePass turn (now (jobs .entry))) id j ⌝ }
+fn settle(
+    setting: Setting,
+    gpus: &mut [[u64; CARD]; GPUS],
+    jobs: &mut [[u64; ROW]; JOBS],
+    turn: Turn,
+    id: u16,
+    j: Job,
+) -> Turn
+    ensures { λ r. ⌜ wholePass r (now (gpus .exit)) (now (jobs .exit)) ≡ settled setting (wholePass turn (now (gpus .entry)) (now (jobs .entry))) id j ⌝ }
 {
-    let got = allocation(setting, jobs, turn, id, j);
+    let got = allocate(setting, gpus, jobs, j, plus_one(id));
     if got.placed {
         return place_as(jobs, turn, id, j, got);
     }
@@ -111,14 +104,12 @@ fn settle(setting: Setting, jobs: &mut [[u64; ROW]; JOBS], turn: Turn, id: u16, 
 
 // The pass when the victims have left.
 fn make_way(clock: f64, jobs: &[[u64; ROW]; JOBS], turn: Turn, id: u16, got: Way) -> Turn
-    ensures { λ r. ⌜ wholePass r (now (jobs .entry)) ≡ madeWay clock (wholePass turn (now (jobs .entry))) id (wholePreempted got (now (jobs .entry))) ⌝ }
+    ensures { λ r. ⌜ ((gpus : List (List ℕ)) → wholePass r gpus (now (jobs .entry)) ≡ madeWay clock (wholePass turn gpus (now (jobs .entry))) id (wholePreempted got gpus (now (jobs .entry)))) ⌝ }
 {
-    let gpus = got.gpus;
     let line = turn.line;
     let placed = turn.placed;
     let victims = got.victims;
     Turn {
-        gpus: gpus,
         line: join_all(line, clock, jobs, victims, got.count, id),
         placed: placed,
         count: turn.count,
@@ -129,40 +120,41 @@ fn make_way(clock: f64, jobs: &[[u64; ROW]; JOBS], turn: Turn, id: u16, got: Way
 fn preempt_for(
     setting: Setting,
     clock: f64,
+    gpus: &mut [[u64; CARD]; GPUS],
     jobs: &mut [[u64; ROW]; JOBS],
     turn: Turn,
     id: u16,
     j: Job,
 ) -> Turn
-    ensures { λ r. ⌜ wholePass r (now (jobs .exit)) ≡ preempting setting clock (wholePass turn (now (jobs .entry))) id j ⌝ }
+    ensures { λ r. ⌜ wholePass r (now (gpus .exit)) (now (jobs .exit)) ≡ preempting setting clock (wholePass turn (now (gpus .entry)) (now (jobs .entry))) id j ⌝ }
 {
-    let gpus = turn.gpus;
     let got = preempt(setting, clock, gpus, jobs, j);
     if got.count == 0 {
         return turn;
     }
     let way = make_way(clock, jobs, turn, id, got);
-    settle(setting, jobs, way, id, j)
+    settle(setting, gpus, jobs, way, id, j)
 }
 
 // A MIG job does not preempt.
 fn consider(
     setting: Setting,
     clock: f64,
+    gpus: &mut [[u64; CARD]; GPUS],
     jobs: &mut [[u64; ROW]; JOBS],
     turn: Turn,
     id: u16,
     j: Job,
 ) -> Turn
-    ensures { λ r. ⌜ wholePass r (now (jobs .exit)) ≡ considered setting clock (wholePass turn (now (jobs .entry))) id j ⌝ }
+    ensures { λ r. ⌜ wholePass r (now (gpus .exit)) (now (jobs .exit)) ≡ considered setting clock (wholePass turn (now (gpus .entry)) (now (jobs .entry))) id j ⌝ }
 {
-    let got = allocation(setting, jobs, turn, id, j);
+    let got = allocate(setting, gpus, jobs, j, plus_one(id));
     if got.placed {
         return place_as(jobs, turn, id, j, got);
     }
     let ask = j.ask;
     if ask.profile == 0 {
-        return preempt_for(setting, clock, jobs, turn, id, j);
+        return preempt_for(setting, clock, gpus, jobs, turn, id, j);
     }
     turn
 }
@@ -171,11 +163,12 @@ fn consider(
 pub fn visit(
     setting: Setting,
     clock: f64,
+    gpus: &mut [[u64; CARD]; GPUS],
     jobs: &mut [[u64; ROW]; JOBS],
     turn: Turn,
     id: u16,
 ) -> Turn
-    ensures { λ r. ⌜ wholePass r (now (jobs .exit)) ≡ visited setting clock (wholePass turn (now (jobs .entry))) id ⌝ }
+    ensures { λ r. ⌜ wholePass r (now (gpus .exit)) (now (jobs .exit)) ≡ visited setting clock (wholePass turn (now (gpus .entry)) (now (jobs .entry))) id ⌝ }
 {
     let line = turn.line;
     let victims = line.victims;
@@ -184,7 +177,7 @@ pub fn visit(
         if is_among(victims, line.evicted, id) {
             return turn;
         }
-        return consider(setting, clock, jobs, turn, id, j);
+        return consider(setting, clock, gpus, jobs, turn, id, j);
     }
     turn
 }

@@ -2,6 +2,7 @@
 
 mod run;
 
+use gpu_planner::RUN_WORDS;
 use libc::STDERR_FILENO;
 use libc::STDIN_FILENO;
 use run::plan_trace;
@@ -28,9 +29,9 @@ fn kept() -> [u8; KEPT]
     [0; KEPT]
 }
 
-fn plan_one(buffer: &mut [u8], out: &mut [u8]) {
+fn plan_one(buffer: &mut [u8], words: &mut [u64], out: &mut [u8]) {
     let n = io::read_full(STDIN_FILENO, buffer);
-    let page = plan_trace(&buffer[..n], out, 0);
+    let page = plan_trace(&buffer[..n], words, out, 0);
     if page.lost {
         return;
     }
@@ -38,14 +39,14 @@ fn plan_one(buffer: &mut [u8], out: &mut [u8]) {
 }
 
 // Where the input is over, all that is collected is written.
-fn plan_next(buffer: &mut [u8], out: &mut [u8], at: usize) -> Next {
+fn plan_next(buffer: &mut [u8], words: &mut [u64], out: &mut [u8], at: usize) -> Next {
     let frame = next_frame(buffer);
     if frame.over {
         write_page(out, at);
         return Next { to: 0, more: false };
     }
     let n = frame.length;
-    let page = plan_trace(&buffer[..n], out, at);
+    let page = plan_trace(&buffer[..n], words, out, at);
     if page.lost {
         return Next { to: 0, more: false };
     }
@@ -58,11 +59,11 @@ fn plan_next(buffer: &mut [u8], out: &mut [u8], at: usize) -> Next {
 }
 
 // The turns are counted down because nothing says that the input ends.
-fn plan_all(buffer: &mut [u8], out: &mut [u8]) {
+fn plan_all(buffer: &mut [u8], words: &mut [u64], out: &mut [u8]) {
     let mut turns = u64::MAX;
     let mut to: usize = 0;
     while turns > 0 {
-        let next = plan_next(buffer, out, to);
+        let next = plan_next(buffer, words, out, to);
         if !next.more {
             return;
         }
@@ -79,16 +80,17 @@ fn is_batch() -> bool {
 }
 
 fn main() {
-    let words = os::arg_count();
+    let given = os::arg_count();
     let mut buffer = kept();
+    let mut words = [0u64; RUN_WORDS];
     let mut out = io::large_buffer();
-    if words < 2 {
-        plan_one(&mut buffer, &mut out);
+    if given < 2 {
+        plan_one(&mut buffer, &mut words, &mut out);
         return;
     }
-    if words == 2 {
+    if given == 2 {
         if is_batch() {
-            plan_all(&mut buffer, &mut out);
+            plan_all(&mut buffer, &mut words, &mut out);
             return;
         }
     }

@@ -1,63 +1,73 @@
-// A trace planned to its end, step by step.
+// A trace planned to its end by the library's run, and its lines.
 
-use model::plan::Plan;
-use planner::Taken;
-use planner::WORDS;
+use gpu_planner::planner_run;
 use text::page::Page;
 use text::page::turn_page;
 use text::told::Last;
-use text::told::put_decisions;
 use text::told::put_last;
-use trace::answer::number_of;
-use trace::answer::place_of;
+use text::told::put_told;
+ghost use Prim.Native.Nat.{_≤_};
 
-// The lines are collected, the last one among them; whoever called writes them.
-fn ended(out: &mut [u8], at: usize, number: u64, place: u64) -> Page {
-    let last = Last {
-        number: number,
-        place: place,
-    };
+// A line a decision; the page is written whenever it is nearly full.
+fn put_all(out: &mut [u8], at: usize, told: &[u64]) -> Page {
+    let n = told.len() / 4;
+    let mut to = at;
+    let mut i: usize = 0;
+    while i < n {
+        let w = 4 * i;
+        let after = put_told(out, to, told[w], told[w + 1], told[w + 2], told[w + 3]);
+        let page = turn_page(out, after);
+        if page.lost {
+            return page;
+        }
+        to = page.to;
+        i = i + 1;
+    }
     Page {
-        to: put_last(out, at, last),
+        to: to,
         lost: false,
     }
 }
 
-// The steps are counted, and bounded so that the loop is seen to end.
-fn run(loaded: Plan, out: &mut [u8], at: usize) -> Page {
-    let mut words = [0u64; WORDS];
-    let mut plan = loaded;
-    let mut to = at;
-    let mut steps: u64 = 0;
-    while steps < u64::MAX {
-        let stepped = planner::step(plan, &mut words);
-        let answer = stepped.answer;
-        plan = stepped.plan;
-        match answer {
-            Taken::Decisions(n) => {
-                to = put_decisions(out, to, &words, n);
-                let page = turn_page(out, to);
-                if page.lost {
-                    return page;
-                }
-                to = page.to;
-            }
-            Taken::NoEvent => return ended(out, to, 0, steps),
-            Taken::NotPermitted => return ended(out, to, 12, 0),
-            Taken::ShortBuffer => return ended(out, to, 10, 0),
-        }
-        steps = steps + 1;
+// The words of the decisions that a head of so many tells, as far as they are there.
+fn end_of(length: usize, decisions: u64) -> usize
+    requires { ⌜ 4 ≤ length ⌝ }
+    ensures { λ r. ⌜ (4 ≤ r) × (r ≤ length) ⌝ }
+{
+    let room = (length - 4) / 4;
+    if decisions < room as u64 {
+        return 4 + 4 * (decisions as usize);
     }
-    ended(out, to, 0, steps)
+    4 + 4 * room
 }
 
-// The lines of a trace, from a place of the page on.
-pub fn plan_trace(bytes: &[u8], out: &mut [u8], at: usize) -> Page {
-    let loaded = planner::load(bytes);
-    let answer = loaded.answer;
-    let first = loaded.plan;
-    if number_of(answer) == 0 {
-        return run(first, out, at);
+// Of a plan that ran to its end the steps are told, of a refused load the place.
+fn last_of(answer: u64, place: u64, steps: u64) -> Last {
+    if answer == 0 {
+        return Last {
+            number: 0,
+            place: steps,
+        };
     }
-    ended(out, at, number_of(answer), place_of(answer) as u64)
+    Last {
+        number: answer,
+        place: place,
+    }
+}
+
+// The lines of a trace, from a place of the page on. The words are those that a run is lent.
+pub fn plan_trace(bytes: &[u8], words: &mut [u64], out: &mut [u8], at: usize) -> Page {
+    let answer = planner_run(bytes, words);
+    if words.len() < 4 {
+        return Page { to: at, lost: true };
+    }
+    let end = end_of(words.len(), words[3]);
+    let page = put_all(out, at, &words[4..end]);
+    if page.lost {
+        return page;
+    }
+    Page {
+        to: put_last(out, page.to, last_of(answer, words[1], words[2])),
+        lost: false,
+    }
 }

@@ -11,6 +11,7 @@ use Rattle.laws.specs.Tests.{never-both}
 use Rattle.model.specs.declared.plan.Plan.{Plan}
 use Rattle.log.specs.Log.{words, decisions}
 use Rattle.log.specs.Words.{over}
+use Rattle.rows.specs.Gpu.{gpusOf}
 use Rattle.rows.specs.Job.{jobsOf}
 use Rattle.rows.specs.Event.{eventsOf}
 use Rattle.happen.specs.Happen.{wholePlan}
@@ -25,11 +26,11 @@ use Rattle.planner.specs.declared.Taken.the-variants.{Decisions, ShortBu
 
 -- the plan without its tables
 abbrev pub restOf : Plan → Rest
-restOf p = record { setting = p .setting; gpus = p .gpus; queue = p .queue; waiting = p .waiting; next = p .next; clock = p .clock; totals = p .totals }
+restOf p = record { setting = p .setting; queue = p .queue; waiting = p .waiting; next = p .next; clock = p .clock; totals = p .totals }
 
 -- with rows of its tables it is the plan again
-pub whole-is : (p : Plan) (jobs room : List (List ℕ)) → jobsOf jobs ≡ p .jobs → eventsOf room ≡ p .events → wholePlan (restOf p) jobs room ≡ p
-whole-is p jobs room j e = rw (j, e)
+pub whole-is : (p : Plan) (gpus jobs room : List (List ℕ)) → gpusOf gpus ≡ p .gpus → jobsOf jobs ≡ p .jobs → eventsOf room ≡ p .events → wholePlan (restOf p) gpus jobs room ≡ p
+whole-is p gpus jobs room g j e = rw (g, j, e)
 
 -- the plan that the tables hold after a step with a buffer of so many words: also one that is not permitted
 unfoldable pub leftIn : Plan → ℕ → Plan

@@ -3,3 +3,4 @@ pub mod Question
 pub mod Step
 pub mod StepLaws
 pub mod Lent
+pub mod TopLaws

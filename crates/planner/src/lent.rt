@@ -1,4 +1,4 @@
-// One step of a plan whose tables of jobs and events are lent as rows; the rest of it is a small struct.
+// One step of a plan whose tables of GPUs, jobs and events are lent as rows; the rest of it is a small struct.
 
 use crate::Taken;
 use crate::WORDS;
@@ -8,14 +8,19 @@ use happen::Rest;
 use log::words::write_words;
 use model::plan::Plan;
 use model::sizes::EVENTS;
+use model::sizes::GPUS;
 use model::sizes::JOBS;
 use room::is_used;
 use rows::event::ENTRY;
 use rows::event::read_events;
+use rows::gpu::CARD;
+use rows::gpu::read_gpus;
 use rows::job::ROW;
 use rows::job::read_jobs;
 ghost use mathlib.Core.Path.{_≡_};
 ghost use lib.ListN.{length};
+ghost use Rattle.rows.specs.Event.{eventsOf};
+ghost use Rattle.room.specs.Top.{freeFrom};
 ghost use Rattle.happen.specs.Happen.{wholePlan};
 ghost use Rattle.planner.specs.Step.{stepped, wordsAfter};
 ghost use Rattle.planner.specs.Lent.{restOf, leftIn};
@@ -30,12 +35,10 @@ pub fn rest_of(plan: Plan) -> Rest
     ensures { λ r. ⌜ r ≡ restOf plan ⌝ }
 {
     let setting = plan.setting;
-    let gpus = plan.gpus;
     let queue = plan.queue;
     let totals = plan.totals;
     Rest {
         setting: setting,
-        gpus: gpus,
         queue: queue,
         waiting: plan.waiting,
         next: plan.next,
@@ -44,16 +47,20 @@ pub fn rest_of(plan: Plan) -> Rest
     }
 }
 
-pub fn plan_of(jobs: &[[u64; ROW]; JOBS], room: &[[u64; ENTRY]; EVENTS], rest: Rest) -> Plan
-    ensures { λ r. ⌜ r ≡ wholePlan rest (now (jobs .entry)) (now (room .entry)) ⌝ }
+pub fn plan_of(
+    gpus: &[[u64; CARD]; GPUS],
+    jobs: &[[u64; ROW]; JOBS],
+    room: &[[u64; ENTRY]; EVENTS],
+    rest: Rest,
+) -> Plan
+    ensures { λ r. ⌜ r ≡ wholePlan rest (now (gpus .entry)) (now (jobs .entry)) (now (room .entry)) ⌝ }
 {
     let setting = rest.setting;
-    let gpus = rest.gpus;
     let queue = rest.queue;
     let totals = rest.totals;
     Plan {
         setting: setting,
-        gpus: gpus,
+        gpus: read_gpus(gpus),
         jobs: read_jobs(jobs),
         queue: queue,
         waiting: rest.waiting,
@@ -64,45 +71,45 @@ pub fn plan_of(jobs: &[[u64; ROW]; JOBS], room: &[[u64; ENTRY]; EVENTS], rest: R
     }
 }
 
+fn leave(answer: Taken, rest: Rest) -> SteppedRest
+    ensures { λ r. ⌜ r ≡ record { answer = answer; rest = rest } ⌝ }
+{
+    SteppedRest {
+        answer: answer,
+        rest: rest,
+    }
+}
+
 // Takes one step in the lent tables. Where a number is not permitted it has changed them, and the buffer alone is as it was;
 // otherwise refused, it leaves everything as it was.
 pub fn step_lent(
+    gpus: &mut [[u64; CARD]; GPUS],
     jobs: &mut [[u64; ROW]; JOBS],
     room: &mut [[u64; ENTRY]; EVENTS],
     rest: Rest,
+    top: usize,
     decisions: &mut [u64],
 ) -> SteppedRest
-    ensures { λ r. ⌜ r .answer ≡ stepped (wholePlan rest (now (jobs .entry)) (now (room .entry))) (length (now (decisions .entry))) .answer ⌝ }
-    ensures { λ r. ⌜ wholePlan (r .rest) (now (jobs .exit)) (now (room .exit)) ≡ leftIn (wholePlan rest (now (jobs .entry)) (now (room .entry))) (length (now (decisions .entry))) ⌝ }
-    ensures { λ _. ⌜ now (decisions .exit) ≡ wordsAfter (wholePlan rest (now (jobs .entry)) (now (room .entry))) (now (decisions .entry)) ⌝ }
+    requires { ⌜ freeFrom top (eventsOf (now room)) ⌝ }
+    ensures { λ r. ⌜ r .answer ≡ stepped (wholePlan rest (now (gpus .entry)) (now (jobs .entry)) (now (room .entry))) (length (now (decisions .entry))) .answer ⌝ }
+    ensures { λ r. ⌜ wholePlan (r .rest) (now (gpus .exit)) (now (jobs .exit)) (now (room .exit)) ≡ leftIn (wholePlan rest (now (gpus .entry)) (now (jobs .entry)) (now (room .entry))) (length (now (decisions .entry))) ⌝ }
+    ensures { λ _. ⌜ now (decisions .exit) ≡ wordsAfter (wholePlan rest (now (gpus .entry)) (now (jobs .entry)) (now (room .entry))) (now (decisions .entry)) ⌝ }
 {
     if decisions.len() < WORDS {
-        return SteppedRest {
-            answer: Taken::ShortBuffer,
-            rest: rest,
-        };
+        return leave(Taken::ShortBuffer, rest);
     }
-    let next = next_event(room);
+    let next = next_event(room, top);
     let e = next.event;
     if is_used(e) {
-        let m = advance(jobs, room, rest, next);
+        let m = advance(gpus, jobs, room, rest, next);
         let after = m.rest;
         if m.ok {
             let log = m.log;
             let table = log.table;
             write_words(decisions, table, log.count);
-            return SteppedRest {
-                answer: Taken::Decisions(log.count),
-                rest: after,
-            };
+            return leave(Taken::Decisions(log.count), after);
         }
-        return SteppedRest {
-            answer: Taken::NotPermitted,
-            rest: after,
-        };
+        return leave(Taken::NotPermitted, after);
     }
-    SteppedRest {
-        answer: Taken::NoEvent,
-        rest: rest,
-    }
+    leave(Taken::NoEvent, rest)
 }

@@ -9,10 +9,13 @@ use loader::load::Loaded;
 use model::job::job_at;
 use model::plan::Plan;
 use model::sizes::EVENTS;
+use model::sizes::GPUS;
 use model::sizes::JOBS;
 use resource::cause::is_placeable;
 use rows::event::ENTRY;
 use rows::event::write_events;
+use rows::gpu::CARD;
+use rows::gpu::write_gpus;
 use rows::job::ROW;
 use rows::job::write_jobs;
 ghost use mathlib.Core.Path.{_≡_};
@@ -63,7 +66,9 @@ pub fn can_place(plan: Plan, job: usize) -> Placeable
     if job < setting.jobs as usize {
         let mut rows = [[0u64; ROW]; JOBS];
         write_jobs(&mut rows, jobs);
-        if is_placeable(setting, gpus, &rows, job_at(jobs, job)) {
+        let mut cards = [[0u64; CARD]; GPUS];
+        write_gpus(&mut cards, gpus);
+        if is_placeable(setting, &cards, &rows, job_at(jobs, job)) {
             return Placeable::Yes;
         }
         return Placeable::No;
@@ -87,18 +92,28 @@ pub fn step(plan: Plan, decisions: &mut [u64]) -> Stepped
     ensures { λ r. ⌜ r ≡ stepped plan (length (now (decisions .entry))) ⌝ }
     ensures { λ _. ⌜ now (decisions .exit) ≡ wordsAfter plan (now (decisions .entry)) ⌝ }
 {
+    let mut gpus = [[0u64; CARD]; GPUS];
     let mut jobs = [[0u64; ROW]; JOBS];
     let mut room = [[0u64; ENTRY]; EVENTS];
     let table = plan.jobs;
     let events = plan.events;
+    let cards = plan.gpus;
+    write_gpus(&mut gpus, cards);
     write_jobs(&mut jobs, table);
     write_events(&mut room, events);
-    let stepped = step_lent(&mut jobs, &mut room, rest_of(plan), decisions);
+    let stepped = step_lent(
+        &mut gpus,
+        &mut jobs,
+        &mut room,
+        rest_of(plan),
+        EVENTS,
+        decisions,
+    );
     let answer = stepped.answer;
     if is_taken(answer) {
         return Stepped {
             answer: answer,
-            plan: plan_of(&jobs, &room, stepped.rest),
+            plan: plan_of(&gpus, &jobs, &room, stepped.rest),
         };
     }
     Stepped {

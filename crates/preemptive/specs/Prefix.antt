@@ -18,6 +18,7 @@ use Rattle.mig.specs.Owner.{freed}
 use Rattle.life.specs.Life.{evicted}
 use Rattle.resource.specs.Cause.{placeable}
 use Rattle.preemptive.specs.Candidate.{candidates}
+use Rattle.rows.specs.Gpu.{gpusOf}
 use Rattle.rows.specs.Job.{jobsOf}
 use Rattle.preemptive.specs.declared.prefix.Preempted.{Preempted}
 use Rattle.preemptive.specs.declared.prefix.Way.{Way}
@@ -48,9 +49,9 @@ made s clock gpus jobs j ids cs =
     let k = shortest s clock gpus jobs j cs in
     record { gpus = freedAll gpus (take k cs); jobs = evictedAll clock jobs (take k cs); victims = ids; count = k }
 
--- the same, with the table of jobs that was lent
-abbrev pub wholePreempted : Way → List (List ℕ) → Preempted
-wholePreempted w jobs = record { gpus = w .gpus; jobs = jobsOf jobs; victims = w .victims; count = w .count }
+-- the same, with the tables of GPUs and jobs that were lent
+abbrev pub wholePreempted : Way → List (List ℕ) → List (List ℕ) → Preempted
+wholePreempted w gpus jobs = record { gpus = gpusOf gpus; jobs = jobsOf jobs; victims = w .victims; count = w .count }
 
 -- What preemption for the job does.
 unfoldable pub preempted : Setting → Float → List Gpu → List Job → Job → Preempted

@@ -9,6 +9,7 @@ use model::setting::Setting;
 use model::sizes::GPUS;
 use model::sizes::JOBS;
 use resource::cause::is_placeable;
+use rows::gpu::CARD;
 use rows::job::ROW;
 use rows::job::read_job;
 use rows::job::write_job;
@@ -16,6 +17,7 @@ use small::lesser;
 use small::plus_one;
 use small::wide_id;
 ghost use mathlib.Core.Path.{_≡_};
+ghost use Rattle.rows.specs.Gpu.{gpusOf};
 ghost use Rattle.rows.specs.Job.{jobsOf};
 ghost use mathlib.Core.List.{_∷_, []};
 ghost use lib.ListN.{take};
@@ -29,9 +31,8 @@ pub struct Preempted {
     pub count: usize,
 }
 
-// The same without the table of jobs, which is lent.
+// The same without the tables, which are lent.
 pub struct Way {
-    pub gpus: [Gpu; GPUS],
     pub victims: [u16; JOBS],
     pub count: usize,
 }
@@ -48,35 +49,33 @@ fn evict_one(jobs: &mut [[u64; ROW]; JOBS], v: u16, clock: f64)
 fn make_room(
     setting: Setting,
     clock: f64,
-    gpus: [Gpu; GPUS],
+    gpus: &mut [[u64; CARD]; GPUS],
     jobs: &mut [[u64; ROW]; JOBS],
     j: Job,
     ids: [u16; JOBS],
     count: usize,
 ) -> Way
-    ensures { λ r. ⌜ wholePreempted r (now (jobs .exit)) ≡ made setting clock gpus (jobsOf (now (jobs .entry))) j ids (take count ids) ⌝ }
+    ensures { λ r. ⌜ wholePreempted r (now (gpus .exit)) (now (jobs .exit)) ≡ made setting clock (gpusOf (now (gpus .entry))) (jobsOf (now (jobs .entry))) j ids (take count ids) ⌝ }
 {
     let n = lesser(count, JOBS);
-    let mut free = gpus;
+    let mut free = *gpus;
     let mut left = *jobs;
     let mut k: usize = 0;
     while k < n {
         let v = ids[k];
-        let freed = free_all(free, plus_one(v));
-        free = freed;
+        free_all(&mut free, plus_one(v));
         evict_one(&mut left, v, clock);
         k = k + 1;
-        if is_placeable(setting, free, &left, j) {
+        if is_placeable(setting, &free, &left, j) {
+            *gpus = free;
             *jobs = left;
             return Way {
-                gpus: free,
                 victims: ids,
                 count: k,
             };
         }
     }
     Way {
-        gpus: gpus,
         victims: ids,
         count: 0,
     }
@@ -85,11 +84,11 @@ fn make_room(
 pub fn preempt(
     setting: Setting,
     clock: f64,
-    gpus: [Gpu; GPUS],
+    gpus: &mut [[u64; CARD]; GPUS],
     jobs: &mut [[u64; ROW]; JOBS],
     j: Job,
 ) -> Way
-    ensures { λ r. ⌜ wholePreempted r (now (jobs .exit)) ≡ preempted setting clock gpus (jobsOf (now (jobs .entry))) j ⌝ }
+    ensures { λ r. ⌜ wholePreempted r (now (gpus .exit)) (now (jobs .exit)) ≡ preempted setting clock (gpusOf (now (gpus .entry))) (jobsOf (now (jobs .entry))) j ⌝ }
 {
     let ask = j.ask;
     let found = candidates(setting, jobs, ask);

@@ -12,18 +12,10 @@ use Rattle.mig.specs.Allocate.{slicesPlaceable, slicesAllocated}
 use Rattle.mig.specs.AllocateLaws.{placeable-placed}
 use Rattle.choice.specs.Choose.{whyNotHere}
 use Rattle.choice.specs.Why.{isEnough}
-use Rattle.choice.specs.declared.why.Why.{Why}
-use Rattle.choice.specs.declared.why.Why.the-variants as Why
 use Rattle.resource.specs.Quota.{withinQuota}
-use Rattle.resource.specs.Cause.{wholeCause, mostOf, slicesCause, resourceCause, firstCause, isNone, placeable}
+use Rattle.resource.specs.Cause.{mostOf, slicesCause, resourceCause, firstCause, isNone, placeable}
 use Rattle.resource.specs.Allocate.{wholeAllocated, slicesGot, allocated}
-
--- no cause means enough GPUs
-enough : (w : Why) → isNone (wholeCause w) ≡ true → isEnough w ≡ true
-enough Why.Enough e = refl
-enough Why.NoCount e = e
-enough Why.NotMultiple e = e
-enough Why.TooFew e = e
+use Rattle.resource.specs.AllocateCases.{none-enough}
 
 -- no cause means that slices can be had
 no-cause : (gpus : List Gpu) (n profile most want : ℕ) → isNone (slicesCause gpus n profile most want) ≡ true → slicesPlaceable gpus n profile most want ≡ true
@@ -62,7 +54,7 @@ module _ (s : Setting) (gpus : List Gpu) (jobs : List Job) (j : Job) where
   -- a placeable whole-GPU job has enough GPUs to choose from
   pub placeable-enough : eqb (j .ask .profile) 0 ≡ true → placeable s gpus jobs j ≡ true → isEnough (whyNotHere gpus (s .gpus) (s .sites) (j .ask)) ≡ true
   unfolding resourceCause
-  placeable-enough z h = enough (whyNotHere gpus (s .gpus) (s .sites) (j .ask)) (rw z at (placeable-resources h))
+  placeable-enough z h = sym (none-enough (whyNotHere gpus (s .gpus) (s .sites) (j .ask))) ∙ rw z at (placeable-resources h)
 
   -- a placeable MIG job gets its slices: there is no yes that fails
   pub placeable-slices : (owner : ℕ) → eqb (j .ask .profile) 0 ≡ false → placeable s gpus jobs j ≡ true → slicesAllocated gpus (s .gpus) (j .ask .profile) (mostOf s (j .ask .profile)) (j .ask .slices) owner .placed ≡ true

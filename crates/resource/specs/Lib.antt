@@ -2,5 +2,6 @@
 pub mod Quota
 pub mod Cause
 pub mod Allocate
+pub mod AllocateCases
 pub mod AllocateLaws
 pub mod Examples

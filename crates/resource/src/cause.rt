@@ -4,14 +4,15 @@ use crate::quota::within_quota;
 use choice::choose::why_not_here;
 use choice::why::Why;
 use mig::allocate::slices_placeable;
-use model::gpu::Gpu;
 use model::job::Job;
 use model::setting::Setting;
 use model::setting::most_at;
 use model::sizes::GPUS;
 use model::sizes::JOBS;
+use rows::gpu::CARD;
 use rows::job::ROW;
 ghost use mathlib.Core.Path.{_≡_};
+ghost use Rattle.rows.specs.Gpu.{gpusOf};
 ghost use Rattle.rows.specs.Job.{jobsOf};
 ghost use Rattle.resource.specs.Cause.{wholeCause, slicesCause, resourceCause, firstCause, isNone, placeable};
 
@@ -38,8 +39,8 @@ fn whole_cause(why: Why) -> Cause
 }
 
 // most is 0 where the profile is not loaded.
-fn slices_cause(gpus: [Gpu; GPUS], n: usize, profile: u8, most: u8, want: u8) -> Cause
-    ensures { λ r. ⌜ r ≡ slicesCause gpus n profile most want ⌝ }
+fn slices_cause(gpus: &[[u64; CARD]; GPUS], n: usize, profile: u8, most: u8, want: u8) -> Cause
+    ensures { λ r. ⌜ r ≡ slicesCause (gpusOf (now (gpus .entry))) n profile most want ⌝ }
 {
     if most == 0 {
         return Cause::NoProfile;
@@ -53,8 +54,8 @@ fn slices_cause(gpus: [Gpu; GPUS], n: usize, profile: u8, most: u8, want: u8) ->
     Cause::NoIdle
 }
 
-pub fn resource_cause(setting: Setting, gpus: [Gpu; GPUS], j: Job) -> Cause
-    ensures { λ r. ⌜ r ≡ resourceCause setting gpus j ⌝ }
+pub fn resource_cause(setting: Setting, gpus: &[[u64; CARD]; GPUS], j: Job) -> Cause
+    ensures { λ r. ⌜ r ≡ resourceCause setting (gpusOf (now (gpus .entry))) j ⌝ }
 {
     let ask = j.ask;
     let n = setting.gpus as usize;
@@ -67,8 +68,13 @@ pub fn resource_cause(setting: Setting, gpus: [Gpu; GPUS], j: Job) -> Cause
     slices_cause(gpus, n, ask.profile, most, ask.slices)
 }
 
-pub fn first_cause(setting: Setting, gpus: [Gpu; GPUS], jobs: &[[u64; ROW]; JOBS], j: Job) -> Cause
-    ensures { λ r. ⌜ r ≡ firstCause setting gpus (jobsOf (now (jobs .entry))) j ⌝ }
+pub fn first_cause(
+    setting: Setting,
+    gpus: &[[u64; CARD]; GPUS],
+    jobs: &[[u64; ROW]; JOBS],
+    j: Job,
+) -> Cause
+    ensures { λ r. ⌜ r ≡ firstCause setting (gpusOf (now (gpus .entry))) (jobsOf (now (jobs .entry))) j ⌝ }
 {
     if within_quota(setting, jobs, j) {
         return resource_cause(setting, gpus, j);
@@ -91,8 +97,13 @@ pub fn is_none(c: Cause) -> bool
     }
 }
 
-pub fn is_placeable(setting: Setting, gpus: [Gpu; GPUS], jobs: &[[u64; ROW]; JOBS], j: Job) -> bool
-    ensures { λ r. ⌜ r ≡ placeable setting gpus (jobsOf (now (jobs .entry))) j ⌝ }
+pub fn is_placeable(
+    setting: Setting,
+    gpus: &[[u64; CARD]; GPUS],
+    jobs: &[[u64; ROW]; JOBS],
+    j: Job,
+) -> bool
+    ensures { λ r. ⌜ r ≡ placeable setting (gpusOf (now (gpus .entry))) (jobsOf (now (jobs .entry))) j ⌝ }
 {
     is_none(first_cause(setting, gpus, jobs, j))
 }

@@ -10,10 +10,12 @@ use model::sizes::EVENTS;
 use rows::event::ENTRY;
 use rows::event::read_event;
 use rows::event::write_event;
+use small::lesser;
 ghost use mathlib.Core.Path.{_≡_};
 ghost use Rattle.rows.specs.Event.{eventsOf};
 ghost use Rattle.laws.specs.Choice.{pick};
-ghost use Rattle.room.specs.Room.{used, earlier, ahead, least, firstFree, added, taken};
+ghost use Rattle.room.specs.Room.{used, earlier, ahead, firstFree, added, taken};
+ghost use Rattle.room.specs.Top.{leastUnder, topAfter};
 
 pub fn is_used(e: Event) -> bool
     ensures { λ r. ⌜ r ≡ used e ⌝ }
@@ -65,15 +67,16 @@ fn better(a: Event, b: Event, i: usize, best: usize) -> usize
     best
 }
 
-// The entry of the least event; some empty entry where there is no event.
-pub fn least_event(room: &[[u64; ENTRY]; EVENTS]) -> usize
-    ensures { λ r. ⌜ r ≡ least (eventsOf (now (room .entry))) ⌝ }
+// The entry of the least event among those below the top; some empty entry where there is none.
+pub fn least_under(room: &[[u64; ENTRY]; EVENTS], top: usize) -> usize
+    ensures { λ r. ⌜ r ≡ leastUnder top (eventsOf (now (room .entry))) ⌝ }
 {
+    let end = lesser(top, EVENTS);
     let mut best: usize = 0;
     let mut i: usize = 1;
-    while i < EVENTS {
+    while i < end {
         let e = read_event(room, i);
-        // most entries are empty, and are told by their kind alone
+        // an empty entry is told by its kind alone
         if is_used(e) {
             best = better(e, read_event(room, best), i, best);
         }
@@ -86,7 +89,14 @@ pub fn least_event(room: &[[u64; ENTRY]; EVENTS]) -> usize
 fn first_free(room: &[[u64; ENTRY]; EVENTS]) -> usize
     ensures { λ r. ⌜ r ≡ firstFree (eventsOf (now (room .entry))) ⌝ }
 {
-    let mut i: usize = 0;
+    next_top(room, 0)
+}
+
+// The first entry from the top on that holds no event, or 1,152; a top past the room stays.
+pub fn next_top(room: &[[u64; ENTRY]; EVENTS], top: usize) -> usize
+    ensures { λ r. ⌜ r ≡ topAfter (eventsOf (now (room .entry))) top ⌝ }
+{
+    let mut i = top;
     while i < EVENTS {
         if is_used(read_event(room, i)) {
             i = i + 1;

@@ -1,4 +1,4 @@
--- The tables of GPUs as loaded, of jobs and of events as rows of numbers.
+-- The tables of GPUs, of jobs and of events as rows of numbers.
 pub mod Number
 pub mod Rows
 pub mod Job

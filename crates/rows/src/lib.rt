@@ -1,4 +1,4 @@
-// The tables of GPUs as loaded, of jobs and of events as rows of numbers: lent, and changed in place.
+// The tables of GPUs, of jobs and of events as rows of numbers: lent, and changed in place.
 
 pub mod event;
 pub mod gpu;

@@ -32,7 +32,7 @@ returns : tie.Need-returns
 unfolding joins arrives
 returns c =
     let q = rw (c .before .before .before .before .before .before .before .before .wait .ensures, c .before .before .before .before .before .before .before .before .before .read-job .ensures, c .before .before .before .before .before .before .before .before .before .before .wide-id .ensures) at (c .before .before .before .before .before .queue-timeout .ensures) in
-    rw (c .say .ensures, c .before .join-queue .ensures, c .before .before .write-job .ensures, c .before .before .before .wide-id2 .ensures, c .before .before .before .before .before .before .before .before .wait .ensures, c .before .before .before .before .before .before .before .before .before .read-job .ensures, c .before .before .before .before .before .before .before .before .before .before .wide-id .ensures, ← q)
+    λ gpus. rw (c .say .ensures, c .before .join-queue .ensures, c .before .before .write-job .ensures, c .before .before .before .wide-id2 .ensures, c .before .before .before .before .before .before .before .before .wait .ensures, c .before .before .before .before .before .before .before .before .before .read-job .ensures, c .before .before .before .before .before .before .before .before .before .before .wide-id .ensures, ← q)
 
 pub arrive-spec : {M : Type 1} → statement M
 arrive-spec =

@@ -33,7 +33,7 @@ say-requires c κs = search needs
 
 returns : tie.Need-returns
 unfolding completes
-returns c = λ room. rw (c .say .ensures, c .before .amount .ensures, c .before .before .free-all .ensures, c .before .before .before .plus-one .ensures, c .before .before .before .before .write-job .ensures, c .before .before .before .before .before .end .ensures, c .before .before .before .before .before .before .wide-id2 .ensures, c .before .before .before .before .before .before .before .before .before .read-job .ensures, c .before .before .before .before .before .before .before .before .before .before .wide-id .ensures)
+returns c = λ room. rw (c .say .ensures, c .before .amount .ensures, c .before .before .free-all .ensures, c .before .before .before .plus-one .ensures, c .before .before .before .before .before .write-job .ensures, c .before .before .before .before .before .before .end .ensures, c .before .before .before .before .before .before .before .wide-id2 .ensures, c .before .before .before .before .before .before .before .before .before .before .read-job .ensures, c .before .before .before .before .before .before .before .before .before .before .before .wide-id .ensures)
 
 pub complete-spec : {M : Type 1} → statement M
 complete-spec =

@@ -9,7 +9,7 @@ empty-log-requires c κs = search needs
 
 returns : tie.Need-returns
 unfolding stale
-returns c = λ jobs room. rw (c .empty-log .ensures)
+returns c = λ gpus jobs room. rw (c .empty-log .ensures)
 
 pub nothing-spec : {M : Type 1} → statement M
 nothing-spec =

@@ -19,7 +19,7 @@ complete-requires c κs = search needs
 returns : tie.Need-returns
 unfolding completed
 returns c =
-    let t = rw (c .before .before .before .is-of-run .ensures, c .before .before .before .before .read-job .ensures, c .before .before .before .before .before .wide-id .ensures) at (c .before .before .if1 .taken) in
+    let t = rw (c .before .before .before .before .is-of-run .ensures, c .before .before .before .before .before .read-job .ensures, c .before .before .before .before .before .before .wide-id .ensures) at (c .before .before .before .if1 .taken) in
     λ room. rw t (c .complete .ensures room)
 
 nothing-requires : tie.Need-nothing-requires
@@ -29,7 +29,7 @@ returns-2 : tie.Need-returns-2
 unfolding completed
 returns-2 c =
     let t = rw (c .before .before .is-of-run .ensures, c .before .before .before .read-job .ensures, c .before .before .before .before .wide-id .ensures) at (c .before .if1 .left) in
-    λ room. rw t (c .nothing .ensures (c .before .before .before .before .before .before .args .jobs .now) room)
+    λ room. rw t (c .nothing .ensures (c .before .before .before .before .before .before .args .gpus .now) (c .before .before .before .before .before .before .args .jobs .now) room)
 
 pub on-completion-spec : {M : Type 1} → statement M
 on-completion-spec =

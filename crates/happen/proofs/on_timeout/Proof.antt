@@ -20,7 +20,7 @@ returns : tie.Need-returns
 unfolding timedOut
 returns c =
     let t = rw (c .before .before .before .is-of-timeout .ensures, c .before .before .before .before .read-job .ensures, c .before .before .before .before .before .wide-id .ensures) at (c .before .before .if1 .taken) in
-    λ room. rw t (c .time-out .ensures room)
+    λ gpus room. rw t (c .time-out .ensures gpus room)
 
 nothing-requires : tie.Need-nothing-requires
 nothing-requires c κs = search needs
@@ -29,7 +29,7 @@ returns-2 : tie.Need-returns-2
 unfolding timedOut
 returns-2 c =
     let t = rw (c .before .before .is-of-timeout .ensures, c .before .before .before .read-job .ensures, c .before .before .before .before .wide-id .ensures) at (c .before .if1 .left) in
-    λ room. rw t (c .nothing .ensures (c .before .before .before .before .before .before .args .jobs .now) room)
+    λ gpus room. rw t (c .nothing .ensures gpus (c .before .before .before .before .before .before .args .jobs .now) room)
 
 pub on-timeout-spec : {M : Type 1} → statement M
 on-timeout-spec =

@@ -30,7 +30,7 @@ say-requires c κs = search needs
 
 returns : tie.Need-returns
 unfolding timesOut
-returns c = λ room. rw (c .say .ensures, c .before .is-permitted .ensures, c .before .before .before .keep-waiting .ensures, c .before .before .before .before .before .write-job .ensures, c .before .before .before .before .before .before .wide-id2 .ensures, c .before .before .before .before .before .before .before .before .fail .ensures, c .before .before .before .before .before .before .before .before .before .read-job .ensures, c .before .before .before .before .before .before .before .before .before .before .wide-id .ensures)
+returns c = λ gpus room. rw (c .say .ensures, c .before .is-permitted .ensures, c .before .before .before .keep-waiting .ensures, c .before .before .before .before .before .write-job .ensures, c .before .before .before .before .before .before .wide-id2 .ensures, c .before .before .before .before .before .before .before .before .fail .ensures, c .before .before .before .before .before .before .before .before .before .read-job .ensures, c .before .before .before .before .before .before .before .before .before .before .wide-id .ensures)
 
 pub time-out-spec : {M : Type 1} → statement M
 time-out-spec =

@@ -1,7 +1,7 @@
 -- `planner::can_place` meets its contract.
 use borrow.Author.Needs.{needs}
-use Rattle.planner.specs.Question.{question}
 use borrow.Author.Tests.{lt-ltb, le-ltb}
+use Rattle.planner.specs.Question.{question}
 use Rattle.planner.proofs.can_place.Statement.{statement}
 use Rattle.planner.proofs.can_place.Tie as tie
 
@@ -11,6 +11,9 @@ cast-if1 c = search needs
 write-jobs-requires : tie.Need-write-jobs-requires
 write-jobs-requires c κs = search needs
 
+write-gpus-requires : tie.Need-write-gpus-requires
+write-gpus-requires c κs = search needs
+
 job-at-requires : tie.Need-job-at-requires
 job-at-requires c κs = search needs
 
@@ -19,11 +22,11 @@ is-placeable-requires c κs = search needs
 
 returns : tie.Need-returns
 unfolding question
-returns c = rw (lt-ltb (c .before .before .before .before .before .before .before .before .before .before .before .args .job) (c .before .before .before .before .before .before .before .before .before .before .before .args .plan .setting .jobs) (c .before .before .before .before .before .before .if1 .taken), ← c .before .before .job-at .ensures, ← c .before .before .before .before .write-jobs .ensures, ← c .before .is-placeable .ensures, c .if2 .taken)
+returns c = rw (lt-ltb (c .before .before .before .before .before .before .before .before .before .before .before .before .before .before .args .job) (c .before .before .before .before .before .before .before .before .before .before .before .before .before .before .args .plan .setting .jobs) (c .before .before .before .before .before .before .before .before .before .if1 .taken), ← c .before .before .job-at .ensures, ← c .before .before .before .before .before .before .before .write-jobs .ensures, ← c .before .before .before .before .before .write-gpus .ensures, ← c .before .is-placeable .ensures, c .if2 .taken)
 
 returns-2 : tie.Need-returns-2
 unfolding question
-returns-2 c = rw (lt-ltb (c .before .before .before .before .before .before .before .before .before .before .before .args .job) (c .before .before .before .before .before .before .before .before .before .before .before .args .plan .setting .jobs) (c .before .before .before .before .before .before .if1 .taken), ← c .before .before .job-at .ensures, ← c .before .before .before .before .write-jobs .ensures, ← c .before .is-placeable .ensures, c .if2 .left)
+returns-2 c = rw (lt-ltb (c .before .before .before .before .before .before .before .before .before .before .before .before .before .before .args .job) (c .before .before .before .before .before .before .before .before .before .before .before .before .before .before .args .plan .setting .jobs) (c .before .before .before .before .before .before .before .before .before .if1 .taken), ← c .before .before .job-at .ensures, ← c .before .before .before .before .before .before .before .write-jobs .ensures, ← c .before .before .before .before .before .write-gpus .ensures, ← c .before .is-placeable .ensures, c .if2 .left)
 
 returns-3 : tie.Need-returns-3
 unfolding question
@@ -35,6 +38,7 @@ can-place-spec =
     (tie.spec
     cast-if1
     write-jobs-requires
+    write-gpus-requires
     job-at-requires
     is-placeable-requires
     returns

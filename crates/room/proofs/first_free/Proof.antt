@@ -1,63 +1,16 @@
 -- `room::first_free` meets its contract.
 use borrow.Author.Needs.{needs}
-use native.Mathlib.Omega.{arith}
-use mathlib.Core.Path.{_≡_, refl}
-use mathlib.Core.Bool.{true, false}
-use Prim.Native.Nat.{_≤_, _-_}
-use Rattle.laws.specs.Search.{first, first-next, first-found, first-end}
-use Rattle.model.specs.Sizes as Sizes
-use Rattle.rows.specs.Event.{eventsOf}
-use Rattle.room.specs.RoomLaws.{free-not, free-is}
-use Rattle.room.specs.Room.{freeAt, firstFree}
+use Rattle.room.specs.Room.{firstFree}
+use Rattle.room.specs.Top.{topAfter}
 use Rattle.room.proofs.first_free.Statement.{statement}
 use Rattle.room.proofs.first_free.Tie as tie
 
-abbrev Inv-loop : tie.InvT-loop
-Inv-loop room i₀ i = (i ≤ Sizes.events) × (first (freeAt (eventsOf room)) (Sizes.events - i) i ≡ firstFree (eventsOf room))
+next-top-requires : tie.Need-next-top-requires
+next-top-requires c κs = search needs
 
-abbrev μ-loop : tie.MeasureT-loop
-μ-loop room i₀ i = Sizes.events - i
-
-loop-holds : tie.Need-loop-holds Inv-loop μ-loop
-unfolding firstFree
-loop-holds c = (omega arith, refl)
-
-read-event-requires : tie.Need-read-event-requires Inv-loop μ-loop
-read-event-requires c κs = search needs
-
-is-used-requires : tie.Need-is-used-requires Inv-loop μ-loop
-is-used-requires c κs = search needs
-
-add-i : tie.Need-add-i Inv-loop μ-loop
-add-i c = search needs
-
-loop-less : tie.Need-loop-less Inv-loop μ-loop
-loop-less c = omega arith
-
-loop-again : tie.Need-loop-again Inv-loop μ-loop
-loop-again c =
-    let h : freeAt (eventsOf (c .before .before .before .before .before .args .room .now)) (c .before .before .before .before .loop .i) ≡ false = free-not (eventsOf (c .before .before .before .before .before .args .room .now)) (c .before .before .before .before .loop .i) (rw (c .before .is-used .ensures, c .before .before .read-event .ensures) at (c .if1 .taken)) in
-    (omega arith, rw (← first-next (freeAt (eventsOf (c .before .before .before .before .before .args .room .now))) Sizes.events (c .before .before .before .before .loop .i) (omega arith) h) (c .before .before .before .before .loop .inv .1))
-
-returns : tie.Need-returns Inv-loop μ-loop
-returns c =
-    let h : freeAt (eventsOf (c .before .before .before .before .before .args .room .now)) (c .before .before .before .before .loop .i) ≡ true = free-is (eventsOf (c .before .before .before .before .before .args .room .now)) (c .before .before .before .before .loop .i) (rw (c .before .is-used .ensures, c .before .before .read-event .ensures) at (c .if1 .left)) in
-    rw (first-found (freeAt (eventsOf (c .before .before .before .before .before .args .room .now))) Sizes.events (c .before .before .before .before .loop .i) (omega arith) h) at (c .before .before .before .before .loop .inv .1)
-
-returns-2 : tie.Need-returns-2 Inv-loop μ-loop
-returns-2 c = rw (first-end (freeAt (eventsOf (c .before .before .args .room .now))) Sizes.events (c .before .loop .i) (omega arith)) at (c .before .loop .inv .1)
+returns : tie.Need-returns
+unfolding firstFree topAfter
+returns c = c .next-top .ensures
 
 pub first-free-spec : {M : Type 1} → statement M
-first-free-spec =
-    tie.close
-    (tie.spec
-    Inv-loop
-    μ-loop
-    loop-holds
-    read-event-requires
-    is-used-requires
-    add-i
-    loop-less
-    loop-again
-    returns
-    returns-2)
+first-free-spec = tie.close (tie.spec next-top-requires returns)

@@ -7,8 +7,8 @@ use Rattle.choice.proofs.choose.choose_gpus.Tie as tie
 eligible-gpus-requires : tie.Need-eligible-gpus-requires
 eligible-gpus-requires c κs = search needs
 
-node-keys-requires : tie.Need-node-keys-requires
-node-keys-requires c κs = search needs
+keys-for-requires : tie.Need-keys-for-requires
+keys-for-requires c κs = search needs
 
 why-not-requires : tie.Need-why-not-requires
 why-not-requires c κs = search needs
@@ -16,30 +16,26 @@ why-not-requires c κs = search needs
 is-enough-requires : tie.Need-is-enough-requires
 is-enough-requires c κs = search needs
 
-group-keys-requires : tie.Need-group-keys-requires
-group-keys-requires c κs = search needs
-
 choice-of-requires : tie.Need-choice-of-requires
 choice-of-requires c κs = search needs
 
 returns : tie.Need-returns
-returns c = choose-yes _ _ _ _ (c .before .before .before .before .before .before .eligible-gpus .result) (c .before .before .before .before .before .node-keys .result) (c .before .before .before .before .why-not .result) (c .before .before .before .before .before .before .eligible-gpus .ensures) (c .before .before .before .before .before .node-keys .ensures) (c .before .before .before .before .why-not .ensures) _ (c .before .before .before .is-enough .result) (c .before .group-keys .result) _ (c .before .before .before .is-enough .ensures) (c .before .before .if1 .taken) (c .before .group-keys .ensures) (c .choice-of .ensures)
+returns c = choose-yes _ _ _ _ (c .before .before .before .before .before .eligible-gpus .result) (c .before .before .before .before .keys-for .result) (c .before .before .before .why-not .result) (c .before .before .before .before .before .eligible-gpus .ensures) (c .before .before .before .before .keys-for .ensures) (c .before .before .before .why-not .ensures) _ (c .before .before .is-enough .result) _ (c .before .before .is-enough .ensures) (c .before .if1 .taken) (c .choice-of .ensures)
 
 no-choice-requires : tie.Need-no-choice-requires
 no-choice-requires c κs = search needs
 
 returns-2 : tie.Need-returns-2
-returns-2 c = choose-no _ _ _ _ (c .before .before .before .before .before .eligible-gpus .result) (c .before .before .before .before .node-keys .result) (c .before .before .before .why-not .result) (c .before .before .before .before .before .eligible-gpus .ensures) (c .before .before .before .before .node-keys .ensures) (c .before .before .before .why-not .ensures) _ (c .before .before .is-enough .result) _ (c .before .before .is-enough .ensures) (c .before .if1 .left) (c .no-choice .ensures)
+returns-2 c = choose-no _ _ _ _ (c .before .before .before .before .before .eligible-gpus .result) (c .before .before .before .before .keys-for .result) (c .before .before .before .why-not .result) (c .before .before .before .before .before .eligible-gpus .ensures) (c .before .before .before .before .keys-for .ensures) (c .before .before .before .why-not .ensures) _ (c .before .before .is-enough .result) _ (c .before .before .is-enough .ensures) (c .before .if1 .left) (c .no-choice .ensures)
 
 pub choose-gpus-spec : {M : Type 1} → statement M
 choose-gpus-spec =
     tie.close
     (tie.spec
     eligible-gpus-requires
-    node-keys-requires
+    keys-for-requires
     why-not-requires
     is-enough-requires
-    group-keys-requires
     choice-of-requires
     returns
     no-choice-requires

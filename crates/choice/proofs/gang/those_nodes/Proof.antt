@@ -7,15 +7,19 @@ use Rattle.laws.specs.Search.{those}
 use Rattle.eligible.specs.Chosen.{listOf}
 use Rattle.eligible.specs.Turns.{Kept, kept-none, kept-done, those-turn-take, those-turn-skip, those-size}
 use Rattle.choice.specs.Gang.{gangNode}
+use Rattle.choice.specs.Cases.{node-tallied-few}
 use borrow.Author.Needs.{needs}
 use Rattle.choice.proofs.gang.those_nodes.Statement.{statement}
 use Rattle.choice.proofs.gang.those_nodes.Tie as tie
 
 abbrev Inv-loop : tie.InvT-loop
-Inv-loop e nodes groups per penalised ids₀ k₀ i₀ ids k i = (i ≤ 32) × (k ≤ i) × Kept ids k (those (gangNode nodes groups (listOf e) per penalised) i 0)
+Inv-loop e nodes groups per penalised counts ids₀ k₀ i₀ ids k i = (i ≤ 32) × (k ≤ i) × Kept ids k (those (gangNode nodes groups (listOf e) per penalised) i 0)
 
 abbrev μ-loop : tie.MeasureT-loop
-μ-loop e nodes groups per penalised ids₀ k₀ i₀ ids k i = 32 - i
+μ-loop e nodes groups per penalised counts ids₀ k₀ i₀ ids k i = 32 - i
+
+tally-requires : tie.Need-tally-requires Inv-loop μ-loop
+tally-requires c κs = search needs
 
 no-ids-requires : tie.Need-no-ids-requires Inv-loop μ-loop
 no-ids-requires c κs = search needs
@@ -26,6 +30,12 @@ loop-holds c = (omega arith, omega arith, kept-none _ _ (c .no-ids .ensures) ref
 
 cast-node : tie.Need-cast-node Inv-loop μ-loop
 cast-node c = search needs
+
+slice-aggregate-counted-at : tie.Need-slice-aggregate-counted-at Inv-loop μ-loop
+slice-aggregate-counted-at c = search needs
+
+counted-at-requires : tie.Need-counted-at-requires Inv-loop μ-loop
+counted-at-requires c κs = search needs
 
 is-gang-node-requires : tie.Need-is-gang-node-requires Inv-loop μ-loop
 is-gang-node-requires c κs = search needs
@@ -47,10 +57,13 @@ loop-less c = omega arith
 
 loop-again : tie.Need-loop-again Inv-loop μ-loop
 loop-again c =
-    let f : Kept (c .if1 .ids) (c .if1 .k) (those (gangNode (c .before .before .before .before .before .args .nodes) (c .before .before .before .before .before .args .groups) (listOf (c .before .before .before .before .before .args .e)) (c .before .before .before .before .before .args .per) (c .before .before .before .before .before .args .penalised)) (c .before .before .before .loop .i + 1) 0) =
+    let f : Kept (c .if1 .ids) (c .if1 .k) (those (gangNode (c .before .before .before .before .before .before .before .args .nodes) (c .before .before .before .before .before .before .before .args .groups) (listOf (c .before .before .before .before .before .before .before .args .e)) (c .before .before .before .before .before .before .before .args .per) (c .before .before .before .before .before .before .before .args .penalised)) (c .before .before .before .before .loop .i + 1) 0) =
     ⊎-elim
-    (λ w. rw (w .1, w .2) (those-turn-take _ _ _ _ (omega arith) (sym (c .before .is-gang-node .ensures) ∙ w .0 .taken) (c .before .before .before .loop .inv .2)))
-    (λ w. rw (w .1, w .2) (those-turn-skip _ _ _ _ (sym (c .before .is-gang-node .ensures) ∙ w .0 .left) (c .before .before .before .loop .inv .2)))
+    (λ w. rw (w .3, w .4) (those-turn-take _ _ _ _ (omega arith) (sym (w .1 .ensures) ∙ w .2 .taken) (c .before .before .before .before .loop .inv .2)))
+    (λ v. ⊎-elim
+    (λ w. rw (w .3, w .4) (those-turn-skip _ _ _ _ (sym (w .1 .ensures) ∙ w .2 .left) (c .before .before .before .before .loop .inv .2)))
+    (λ w. rw (w .1, w .2) (those-turn-skip _ _ _ _ (node-tallied-few (c .before .before .before .before .before .before .before .args .nodes) (c .before .before .before .before .before .before .before .args .groups) (listOf (c .before .before .before .before .before .before .before .args .e)) (c .before .before .before .before .before .before .tally .result) (c .before .before .before .before .before .before .before .args .per) (c .before .before .before .before .loop .i) (c .before .counted-at .result) (c .before .before .before .before .before .before .before .args .penalised) (c .before .before .before .before .before .before .tally .ensures) (omega arith) (c .before .counted-at .ensures) (w .0 .left)) (c .before .before .before .before .loop .inv .2)))
+    v)
     (c .if1 .came) in
     (omega arith, those-size _ _ _ _ f, f)
 
@@ -65,9 +78,12 @@ those-nodes-spec =
     (tie.spec
     Inv-loop
     μ-loop
+    tally-requires
     no-ids-requires
     loop-holds
     cast-node
+    slice-aggregate-counted-at
+    counted-at-requires
     is-gang-node-requires
     mul-ids
     array-write-ids

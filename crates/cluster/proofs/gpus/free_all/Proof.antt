@@ -1,50 +1,56 @@
 -- `cluster::gpus::free_all` meets its contract.
 use borrow.Author.Needs.{needs}
+use Rattle.cluster.specs.Gpus.{free-turn, free-pass, set-long}
 use Rattle.mig.specs.Owner.{freed}
-use Rattle.mig.specs.More.{map-turn, map-end}
-use lib.ListN.{length, take, drop, length-set}
+use Rattle.mig.specs.More.{map-end}
+use Rattle.rows.specs.Gpu.{gpusOf}
+use lib.ListN.{length, take, drop}
 use mathlib.Core.List.{map, _++_}
-use mathlib.Core.Path.{_≡_, refl, sym, _∙_}
+use mathlib.Core.Logic.{⊎-elim}
+use mathlib.Core.Path.{_≡_, refl, sym, ap, _∙_}
 use native.Mathlib.Omega.{arith}
 use Prim.Native.Nat.{_≤_, _-_}
 use Rattle.cluster.proofs.gpus.free_all.Statement.{statement}
 use Rattle.cluster.proofs.gpus.free_all.Tie as tie
 
 abbrev Inv-loop : tie.InvT-loop
-Inv-loop owner table₀ i₀ table i = (i ≤ 128) × (length table ≡ 128) × (take i table ++ map (freed owner) (drop i table) ≡ map (freed owner) table₀)
+Inv-loop gpus₀ owner m i₀ gpus i = (i ≤ 128) × (length (gpusOf gpus) ≡ 128) × (take i (gpusOf gpus) ++ map (freed owner) (drop i (gpusOf gpus)) ≡ map (freed owner) (gpusOf gpus₀))
 
 abbrev μ-loop : tie.MeasureT-loop
-μ-loop owner table₀ i₀ table i = 128 - i
+μ-loop gpus₀ owner m i₀ gpus i = 128 - i
+
+gpu-places-requires : tie.Need-gpu-places-requires Inv-loop μ-loop
+gpu-places-requires c κs = search needs
 
 loop-holds : tie.Need-loop-holds Inv-loop μ-loop
-loop-holds c = (omega arith, omega arith, refl)
+loop-holds c = (omega arith, c .gpu-places .ensures .1, refl)
 
-mul-free-gpu : tie.Need-mul-free-gpu Inv-loop μ-loop
-mul-free-gpu c = search needs
+may-hold-requires : tie.Need-may-hold-requires Inv-loop μ-loop
+may-hold-requires c κs = search needs
 
-array-copy-out-free-gpu : tie.Need-array-copy-out-free-gpu Inv-loop μ-loop
-array-copy-out-free-gpu c = search needs
+read-gpu-requires : tie.Need-read-gpu-requires Inv-loop μ-loop
+read-gpu-requires c κs = search needs
 
 free-gpu-requires : tie.Need-free-gpu-requires Inv-loop μ-loop
 free-gpu-requires c κs = search needs
 
-mul-table : tie.Need-mul-table Inv-loop μ-loop
-mul-table c = search needs
-
-array-set-from-table : tie.Need-array-set-from-table Inv-loop μ-loop
-array-set-from-table c = search needs
+write-gpu-requires : tie.Need-write-gpu-requires Inv-loop μ-loop
+write-gpu-requires c κs = search needs
 
 add-i : tie.Need-add-i Inv-loop μ-loop
 add-i c = search needs
 
 loop-less : tie.Need-loop-less Inv-loop μ-loop
-loop-less c = omega arith
+loop-less c = omega (arith, c .before .before .before .before .before .gpu-places .ensures .0)
 
 loop-again : tie.Need-loop-again Inv-loop μ-loop
-loop-again c = (omega arith, simp length-set (omega arith), rw (c .free-gpu .ensures) (map-turn (freed (c .before .before .before .before .args .owner)) (c .before .before .before .loop .table) (c .before .before .before .loop .i) _ (omega arith) ∙ c .before .before .before .loop .inv .2))
+loop-again c = ⊎-elim
+    (λ w. (omega (arith, c .before .before .before .before .before .gpu-places .ensures .0), set-long (gpusOf (c .before .before .before .before .loop .gpus)) _ (c .before .before .before .before .loop .i) _ (ap gpusOf (w .6) ∙ w .5 .ensures) (c .before .before .before .before .loop .inv .1), free-turn (gpusOf (c .before .before .before .before .loop .gpus)) _ _ (c .before .before .before .before .loop .i) (c .before .before .before .before .before .before .before .args .owner) (w .3 .result) (w .4 .result) (omega (arith, c .before .before .before .before .before .gpu-places .ensures .0)) (w .3 .ensures) (w .4 .ensures) (ap gpusOf (w .6) ∙ w .5 .ensures) (c .before .before .before .before .loop .inv .2)))
+    (λ w. (omega (arith, c .before .before .before .before .before .gpu-places .ensures .0), rw (w .1) (c .before .before .before .before .loop .inv .1), rw (w .1) (free-pass (c .before .before .before .before .loop .gpus) _ (c .before .before .before .before .loop .i) (c .before .before .before .before .before .before .before .args .owner) (omega (arith, c .before .before .before .before .before .gpu-places .ensures .0)) (sym (c .before .may-hold .ensures) ∙ w .0 .left) (c .before .before .before .before .loop .inv .2))))
+    (c .if1 .came)
 
 returns : tie.Need-returns Inv-loop μ-loop
-returns c = sym (map-end (freed (c .before .before .args .owner)) (c .before .loop .table) (c .before .loop .i) (omega arith)) ∙ c .before .loop .inv .2
+returns c = sym (map-end (freed (c .before .before .before .before .args .owner)) (gpusOf (c .before .loop .gpus)) (c .before .loop .i) (omega (arith, c .before .before .gpu-places .ensures .0))) ∙ c .before .loop .inv .2
 
 pub free-all-spec : {M : Type 1} → statement M
 free-all-spec =
@@ -52,12 +58,12 @@ free-all-spec =
     (tie.spec
     Inv-loop
     μ-loop
+    gpu-places-requires
     loop-holds
-    mul-free-gpu
-    array-copy-out-free-gpu
+    may-hold-requires
+    read-gpu-requires
     free-gpu-requires
-    mul-table
-    array-set-from-table
+    write-gpu-requires
     add-i
     loop-less
     loop-again

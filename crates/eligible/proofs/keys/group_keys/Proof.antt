@@ -5,6 +5,8 @@ use Prim.Native.Nat.{_-_, _≤_}
 use native.Mathlib.Omega.{arith}
 use lib.ListN.{take}
 use Rattle.laws.specs.Lists.{pad}
+use Rattle.model.specs.Gpu.{noGpu}
+use Rattle.rows.specs.Gpu.{gpusOf}
 use Rattle.eligible.specs.Keys.{groupOf, groupKeys}
 use Rattle.eligible.specs.Turns.{map-turn, map-done}
 use borrow.Author.Needs.{needs}
@@ -12,10 +14,13 @@ use Rattle.eligible.proofs.keys.group_keys.Statement.{statement}
 use Rattle.eligible.proofs.keys.group_keys.Tie as tie
 
 abbrev Inv-loop : tie.InvT-loop
-Inv-loop gpus keys₀ i₀ keys i = (i ≤ 128) × (keys ≡ pad 128 0 (map groupOf (take i gpus)))
+Inv-loop gpus m keys₀ i₀ keys i = (i ≤ 128) × (keys ≡ pad 128 0 (map groupOf (take i (gpusOf gpus))))
 
 abbrev μ-loop : tie.MeasureT-loop
-μ-loop gpus keys₀ i₀ keys i = 128 - i
+μ-loop gpus m keys₀ i₀ keys i = 128 - i
+
+gpu-places-requires : tie.Need-gpu-places-requires Inv-loop μ-loop
+gpu-places-requires c κs = search needs
 
 no-ids-requires : tie.Need-no-ids-requires Inv-loop μ-loop
 no-ids-requires c κs = search needs
@@ -23,11 +28,8 @@ no-ids-requires c κs = search needs
 loop-holds : tie.Need-loop-holds Inv-loop μ-loop
 loop-holds c = (omega arith, c .no-ids .ensures)
 
-mul-g : tie.Need-mul-g Inv-loop μ-loop
-mul-g c = search needs
-
-array-copy-out-g : tie.Need-array-copy-out-g Inv-loop μ-loop
-array-copy-out-g c = search needs
+read-gpu-requires : tie.Need-read-gpu-requires Inv-loop μ-loop
+read-gpu-requires c κs = search needs
 
 mul-keys : tie.Need-mul-keys Inv-loop μ-loop
 mul-keys c = search needs
@@ -42,11 +44,11 @@ loop-less : tie.Need-loop-less Inv-loop μ-loop
 loop-less c = omega arith
 
 loop-again : tie.Need-loop-again Inv-loop μ-loop
-loop-again c = (omega arith, map-turn groupOf (c .before .before .loop .keys) (c .before .before .before .before .args .t1) (c .before .before .loop .i) _ (omega arith) (omega arith) (c .before .before .loop .inv .1))
+loop-again c = (omega arith, rw (c .read-gpu .ensures) (map-turn groupOf (c .before .before .loop .keys) (gpusOf (c .before .before .before .before .before .args .gpus .now)) (c .before .before .loop .i) noGpu (omega arith) (omega arith) (c .before .before .loop .inv .1)))
 
 returns : tie.Need-returns Inv-loop μ-loop
 unfolding groupKeys
-returns c = map-done groupOf (c .before .loop .keys) (c .before .before .before .args .t1) (c .before .loop .i) (search needs) (omega arith) (c .before .loop .inv .1)
+returns c = map-done groupOf (c .before .loop .keys) (gpusOf (c .before .before .before .before .args .gpus .now)) (c .before .loop .i) (omega arith) (omega arith) (c .before .loop .inv .1)
 
 pub group-keys-spec : {M : Type 1} → statement M
 group-keys-spec =
@@ -54,10 +56,10 @@ group-keys-spec =
     (tie.spec
     Inv-loop
     μ-loop
+    gpu-places-requires
     no-ids-requires
     loop-holds
-    mul-g
-    array-copy-out-g
+    read-gpu-requires
     mul-keys
     array-write-keys
     add-i

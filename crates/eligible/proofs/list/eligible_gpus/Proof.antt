@@ -4,6 +4,7 @@ use mathlib.Core.Logic.{⊎-elim}
 use Prim.Native.Nat.{_-_, _≤_, _+_, min}
 use native.Mathlib.Omega.{arith}
 use Rattle.laws.specs.Search.{those}
+use Rattle.rows.specs.Gpu.{gpusOf}
 use Rattle.eligible.specs.Eligible.{mayTake, eligibles}
 use Rattle.eligible.specs.Turns.{Kept, kept-none, kept-done, those-turn-take, those-turn-skip, those-size, may-is}
 use borrow.Author.Needs.{needs}
@@ -11,10 +12,10 @@ use Rattle.eligible.proofs.list.eligible_gpus.Statement.{statement}
 use Rattle.eligible.proofs.list.eligible_gpus.Tie as tie
 
 abbrev Inv-loop : tie.InvT-loop
-Inv-loop n sites ask gpus m ids₀ k₀ i₀ ids k i = (i ≤ m) × (m ≤ 128) × (k ≤ i) × Kept ids k (those (mayTake gpus sites ask) i 0)
+Inv-loop gpus n sites ask m ids₀ k₀ i₀ ids k i = (i ≤ m) × (m ≤ 128) × (k ≤ i) × Kept ids k (those (mayTake (gpusOf gpus) sites ask) i 0)
 
 abbrev μ-loop : tie.MeasureT-loop
-μ-loop n sites ask gpus m ids₀ k₀ i₀ ids k i = m - i
+μ-loop gpus n sites ask m ids₀ k₀ i₀ ids k i = m - i
 
 lesser-requires : tie.Need-lesser-requires Inv-loop μ-loop
 lesser-requires c κs = search needs
@@ -26,11 +27,8 @@ loop-holds : tie.Need-loop-holds Inv-loop μ-loop
 unfolding those
 loop-holds c = (omega arith, omega arith, omega arith, kept-none _ _ (c .no-ids .ensures) refl)
 
-mul-g : tie.Need-mul-g Inv-loop μ-loop
-mul-g c = search needs
-
-array-copy-out-g : tie.Need-array-copy-out-g Inv-loop μ-loop
-array-copy-out-g c = search needs
+read-gpu-requires : tie.Need-read-gpu-requires Inv-loop μ-loop
+read-gpu-requires c κs = search needs
 
 cast-site-at : tie.Need-cast-site-at Inv-loop μ-loop
 cast-site-at c = search needs
@@ -61,9 +59,9 @@ loop-less c = omega arith
 
 loop-again : tie.Need-loop-again Inv-loop μ-loop
 loop-again c =
-    let t : mayTake (c .before .before .before .before .before .before .before .before .before .args .t1) (c .before .before .before .before .before .before .before .before .before .args .sites) (c .before .before .before .before .before .before .before .before .before .args .ask) (c .before .before .before .before .before .before .loop .i) ≡ c .before .eligible-gpu .result =
-    may-is (c .before .before .before .before .before .before .before .before .before .args .t1) (c .before .before .before .before .before .before .before .before .before .args .sites) (c .before .before .before .before .before .before .before .before .before .args .ask) (c .before .before .before .before .before .before .loop .i) (c .before .before .site-at .result) _ _ (omega arith) (c .before .before .site-at .ensures) (c .before .eligible-gpu .ensures) in
-    let f : Kept (c .if1 .ids) (c .if1 .k) (those (mayTake (c .before .before .before .before .before .before .before .before .before .args .t1) (c .before .before .before .before .before .before .before .before .before .args .sites) (c .before .before .before .before .before .before .before .before .before .args .ask)) (c .before .before .before .before .before .before .loop .i + 1) 0) =
+    let t : mayTake (gpusOf (c .before .before .before .before .before .before .before .before .before .args .gpus .now)) (c .before .before .before .before .before .before .before .before .before .args .sites) (c .before .before .before .before .before .before .before .before .before .args .ask) (c .before .before .before .before .before .before .loop .i) ≡ c .before .eligible-gpu .result =
+    may-is (gpusOf (c .before .before .before .before .before .before .before .before .before .args .gpus .now)) (c .before .before .before .before .before .before .before .before .before .args .sites) (c .before .before .before .before .before .before .before .before .before .args .ask) (c .before .before .before .before .before .before .loop .i) (c .before .before .site-at .result) (c .before .before .before .before .read-gpu .result) _ (c .before .before .before .before .read-gpu .ensures) (c .before .before .site-at .ensures) (c .before .eligible-gpu .ensures) in
+    let f : Kept (c .if1 .ids) (c .if1 .k) (those (mayTake (gpusOf (c .before .before .before .before .before .before .before .before .before .args .gpus .now)) (c .before .before .before .before .before .before .before .before .before .args .sites) (c .before .before .before .before .before .before .before .before .before .args .ask)) (c .before .before .before .before .before .before .loop .i + 1) 0) =
     ⊎-elim
     (λ w. rw (w .1, w .2) (those-turn-take _ _ _ _ (omega arith) (t ∙ w .0 .taken) (c .before .before .before .before .before .before .loop .inv .3)))
     (λ w. rw (w .1, w .2) (those-turn-skip _ _ _ _ (t ∙ w .0 .left) (c .before .before .before .before .before .before .loop .inv .3)))
@@ -85,8 +83,7 @@ eligible-gpus-spec =
     lesser-requires
     no-ids-requires
     loop-holds
-    mul-g
-    array-copy-out-g
+    read-gpu-requires
     cast-site-at
     site-at-requires
     eligible-gpu-requires

@@ -16,7 +16,7 @@ walk-requires c κs = search needs
 
 returns : tie.Need-returns
 unfolding passOf newPass newTurn
-returns c = rw (c .walk .ensures, c .before .new-turn .ensures, c .before .before .before .new-line .ensures)
+returns c = rw (c .walk .ensures, c .before .new-turn .ensures, c .before .before .before .before .new-line .ensures)
 
 pub pass-of-spec : {M : Type 1} → statement M
 pass-of-spec = tie.close (tie.spec new-line-requires new-turn-requires walk-requires returns)

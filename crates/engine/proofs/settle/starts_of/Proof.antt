@@ -11,7 +11,7 @@ begin-all-requires : tie.Need-begin-all-requires
 begin-all-requires c κs = search needs
 
 returns : tie.Need-returns
-returns c = starts-lent (c .before .before .before .before .before .before .before .before .before .before .before .before .before .args .rest) (c .before .before .before .before .before .before .before .before .before .before .before .before .before .args .pass) (c .before .before .before .before .before .before .before .before .before .before .before .before .before .args .jobs .now) (c .before .before .before .before .before .before .before .before .before .before .before .before .before .args .room .now) (c .before .before .before .queue-timeouts .last .0) (c .before .before .before .queue-timeouts .result) _ (c .before .before .before .queue-timeouts .ensures) (c .begin-all .ensures)
+returns c = λ was gpus. starts-lent (c .before .before .before .before .before .before .before .before .before .before .before .before .before .args .rest) (c .before .before .before .before .before .before .before .before .before .before .before .before .before .args .pass) was gpus (c .before .before .before .before .before .before .before .before .before .before .before .before .before .args .jobs .now) (c .before .before .before .before .before .before .before .before .before .before .before .before .before .args .room .now) (c .before .before .before .queue-timeouts .last .0) (c .before .before .before .queue-timeouts .result) _ (c .before .before .before .queue-timeouts .ensures) (c .begin-all .ensures)
 
 pub starts-of-spec : {M : Type 1} → statement M
 starts-of-spec = tie.close (tie.spec queue-timeouts-requires begin-all-requires returns)

@@ -10,17 +10,17 @@ use Rattle.fit.proofs.group.fullest_key.Statement.{statement}
 use Rattle.fit.proofs.group.fullest_key.Tie as tie
 
 abbrev Inv-loop : tie.InvT-loop
-Inv-loop counts b₀ i₀ b i = (i ≤ 257) × (b < 257) × (argmax (counted counts) (257 - i) i b ≡ fullest counts)
+Inv-loop counts b₀ most₀ i₀ b most i = (i ≤ 257) × (b < 257) × (most ≡ counted counts b) × (argmax (counted counts) (257 - i) i b ≡ fullest counts)
 
 abbrev μ-loop : tie.MeasureT-loop
-μ-loop counts b₀ i₀ b i = 257 - i
-
-loop-holds : tie.Need-loop-holds Inv-loop μ-loop
-unfolding fullest
-loop-holds c = (omega arith, omega arith, refl)
+μ-loop counts b₀ most₀ i₀ b most i = 257 - i
 
 counted-at-requires : tie.Need-counted-at-requires Inv-loop μ-loop
 counted-at-requires c κs = search needs
+
+loop-holds : tie.Need-loop-holds Inv-loop μ-loop
+unfolding fullest
+loop-holds c = (omega arith, omega arith, c .counted-at .ensures, refl)
 
 counted-at-requires-2 : tie.Need-counted-at-requires-2 Inv-loop μ-loop
 counted-at-requires-2 c κs = search needs
@@ -34,15 +34,15 @@ loop-less c = omega arith
 loop-again : tie.Need-loop-again Inv-loop μ-loop
 loop-again c =
     ⊎-elim
-    (λ w. (omega arith, omega arith, rw (w .1) (sym (argmax-take (counted (c .before .before .before .before .before .before .before .args .counts .now)) 257 (c .before .before .before .before .before .before .loop .i) (c .before .before .before .before .before .before .loop .b) (omega arith) (omega arith)) ∙ c .before .before .before .before .before .before .loop .inv .2)))
-    (λ w. (omega arith, omega arith, rw (w .1) (sym (argmax-keep (counted (c .before .before .before .before .before .before .before .args .counts .now)) 257 (c .before .before .before .before .before .before .loop .i) (c .before .before .before .before .before .before .loop .b) (omega arith) (omega arith)) ∙ c .before .before .before .before .before .before .loop .inv .2)))
+    (λ w. (omega arith, omega arith, rw (w .1, w .2) (c .before .counted-at2 .ensures), rw (w .1) (sym (argmax-take (counted (c .before .before .before .before .before .before .before .args .counts .now)) 257 (c .before .before .before .before .loop .i) (c .before .before .before .before .loop .b) (omega arith) (omega arith)) ∙ c .before .before .before .before .loop .inv .3)))
+    (λ w. (omega arith, omega arith, rw (w .1, w .2) (c .before .before .before .before .loop .inv .2), rw (w .1) (sym (argmax-keep (counted (c .before .before .before .before .before .before .before .args .counts .now)) 257 (c .before .before .before .before .loop .i) (c .before .before .before .before .loop .b) (omega arith) (omega arith)) ∙ c .before .before .before .before .loop .inv .3)))
     (c .if1 .came)
 
 cast-result : tie.Need-cast-result Inv-loop μ-loop
 cast-result c = search needs
 
 returns : tie.Need-returns Inv-loop μ-loop
-returns c = sym (argmax-end (counted (c .before .before .args .counts .now)) 257 (c .before .loop .i) (c .before .loop .b) (omega arith)) ∙ c .before .loop .inv .2
+returns c = sym (argmax-end (counted (c .before .before .before .before .args .counts .now)) 257 (c .before .loop .i) (c .before .loop .b) (omega arith)) ∙ c .before .loop .inv .3
 
 pub fullest-key-spec : {M : Type 1} → statement M
 fullest-key-spec =
@@ -50,8 +50,8 @@ fullest-key-spec =
     (tie.spec
     Inv-loop
     μ-loop
-    loop-holds
     counted-at-requires
+    loop-holds
     counted-at-requires-2
     add-i
     loop-less

@@ -1,9 +1,10 @@
 -- `gpu_planner::load::load_and_run` meets its contract.
-use mathlib.Core.Path.{sym, ap, _∙_}
+use borrow.Author.Needs.{needs}
+use mathlib.Core.Path.{sym, _∙_}
 use Rattle.rows.specs.Job.{jobsOf}
 use Rattle.loader.specs.LoadLaws.{load-zeros}
-use Rattle.gpu_planner.specs.Load.{firstRest, first-room, ran-lent, refused-lent}
-use borrow.Author.Needs.{needs}
+use Rattle.gpu_planner.specs.Load.{first-room, ran-lent, refused-lent}
+use Rattle.gpu_planner.specs.TopLaws.{first-top}
 use Rattle.gpu_planner.proofs.load.load_and_run.Statement.{statement}
 use Rattle.gpu_planner.proofs.load.load_and_run.Tie as tie
 
@@ -25,20 +26,17 @@ lesser-requires c κs = search needs
 write-arrivals-requires : tie.Need-write-arrivals-requires
 write-arrivals-requires c κs = search needs
 
-read-gpus-requires : tie.Need-read-gpus-requires
-read-gpus-requires c κs = search needs
-
 first-rest-requires : tie.Need-first-rest-requires
 first-rest-requires c κs = search needs
 
 run-requires : tie.Need-run-requires
-run-requires c κs = c .before .before .before .before .before .before .before .before .before .before .before .before .before .before .before .before .before .before .before .before .before .before .pre
+run-requires c κs = (c .before .before .before .before .before .before .before .before .before .before .before .before .before .before .before .before .before .before .before .before .before .pre, first-top _ (jobsOf (c .before .before .before .before .before .before .before .before .before .before .before .before .before .before .before .before .load-tables .last .1 .1 .0)) (c .before .before .before .before .before .before .before .before .lesser .result) (c .before .before .before .before .before .write-arrivals .ensures))
 
 same-length : tie.Need-same-length
 same-length c = search needs
 
 returns : tie.Need-returns
-returns c = ran-lent (c .before .before .before .before .before .before .before .before .before .before .before .before .before .before .before .before .before .before .before .before .before .before .before .before .before .args .trace .now) (c .before .before .before .before .before .before .before .before .before .before .before .before .before .before .before .before .before .before .before .before .before .before .before .before .before .args .words .now) (c .before .before .before .before .before .before .before .before .before .before .before .before .before .before .before .before .before .before .before .before .load-tables .result) (c .before .before .before .before .before .before .before .before .before .before .before .before .before .before .before .before .before .before .before .before .load-tables .last .1 .0) (c .before .before .before .before .before .before .before .before .before .before .before .before .before .before .before .before .before .before .before .before .load-tables .last .1 .1 .0) (c .before .before .before .before .before .before .before .before .before .before .before .before .before .before .before .before .before .before .before .before .load-tables .ensures ∙ load-zeros (c .before .before .before .before .before .before .before .before .before .before .before .before .before .before .before .before .before .before .before .before .before .before .before .before .before .args .trace .now)) (c .before .before .run .result) (c .before .before .before .before .before .before .before .before .before .write-arrivals .last .0) (c .before .before .before .before .first-rest .result) _ (sym (c .before .before .before .before .before .before .before .before .before .before .before .before .before .before .before .before .before .before .before .is-accepted .ensures) ∙ c .before .before .before .before .before .before .before .before .before .before .before .before .before .before .before .before .before .before .if1 .taken) (first-room _ (jobsOf (c .before .before .before .before .before .before .before .before .before .before .before .before .before .before .before .before .before .before .before .before .load-tables .last .1 .1 .0)) (c .before .before .before .before .before .before .before .before .before .before .before .before .before .before .before .before .before .before .before .before .load-tables .result .loading .setting .jobs) (c .before .before .before .before .before .before .before .before .before .before .before .before .lesser .result) (c .before .before .before .before .before .before .before .before .before .before .before .before .before .job-places .result) (c .before .before .before .before .before .before .before .before .before .before .before .before .before .job-places .ensures) (c .before .before .before .before .before .before .before .before .before .before .before .before .lesser .ensures) (c .before .before .before .before .before .before .before .before .before .write-arrivals .ensures)) (c .before .before .before .before .first-rest .ensures ∙ ap (firstRest (c .before .before .before .before .before .before .before .before .before .before .before .before .before .before .before .before .before .before .before .before .load-tables .result .loading .setting)) (c .before .before .before .before .before .read-gpus .ensures)) (c .before .before .run .ensures .0) (c .before .before .run .ensures .1)
+returns c = ran-lent (c .before .before .before .before .before .before .before .before .before .before .before .before .before .before .before .before .before .before .before .before .before .before .before .before .args .trace .now) (c .before .before .before .before .before .before .before .before .before .before .before .before .before .before .before .before .before .before .before .before .before .before .before .before .args .words .now) (c .before .before .before .before .before .before .before .before .before .before .before .before .before .before .before .before .before .before .before .load-tables .result) (c .before .before .before .before .before .before .before .before .before .before .before .before .before .before .before .before .before .before .before .load-tables .last .1 .0) (c .before .before .before .before .before .before .before .before .before .before .before .before .before .before .before .before .before .before .before .load-tables .last .1 .1 .0) (c .before .before .before .before .before .before .before .before .before .before .before .before .before .before .before .before .before .before .before .load-tables .ensures ∙ load-zeros (c .before .before .before .before .before .before .before .before .before .before .before .before .before .before .before .before .before .before .before .before .before .before .before .before .args .trace .now)) (c .before .before .run .result) (c .before .before .before .before .before .before .before .before .write-arrivals .last .0) (c .before .before .before .before .first-rest .result) _ (sym (c .before .before .before .before .before .before .before .before .before .before .before .before .before .before .before .before .before .before .is-accepted .ensures) ∙ c .before .before .before .before .before .before .before .before .before .before .before .before .before .before .before .before .before .if1 .taken) (first-room _ (jobsOf (c .before .before .before .before .before .before .before .before .before .before .before .before .before .before .before .before .before .before .before .load-tables .last .1 .1 .0)) (c .before .before .before .before .before .before .before .before .before .before .before .before .before .before .before .before .before .before .before .load-tables .result .loading .setting .jobs) (c .before .before .before .before .before .before .before .before .before .before .before .lesser .result) (c .before .before .before .before .before .before .before .before .before .before .before .before .job-places .result) (c .before .before .before .before .before .before .before .before .before .before .before .before .job-places .ensures) (c .before .before .before .before .before .before .before .before .before .before .before .lesser .ensures) (c .before .before .before .before .before .before .before .before .write-arrivals .ensures)) (c .before .before .before .before .first-rest .ensures) (c .before .before .run .ensures .0) (c .before .before .run .ensures .1)
 
 refused-requires : tie.Need-refused-requires
 refused-requires c κs = search needs
@@ -56,7 +54,6 @@ load-and-run-spec =
     job-places-requires
     lesser-requires
     write-arrivals-requires
-    read-gpus-requires
     first-rest-requires
     run-requires
     same-length

@@ -3,21 +3,23 @@ use mathlib.Core.Path.{_≡_, refl, sym, _∙_}
 use Prim.Native.Nat.{_≤_, _-_}
 use native.Mathlib.Omega.{arith}
 use lib.ListN.{length}
+use borrow.Author.Needs.{needs}
+use Rattle.rows.specs.Event.{eventsOf}
+use Rattle.room.specs.Top.{freeFrom}
 use Rattle.happen.specs.Happen.{wholePlan}
 use Rattle.gpu_planner.specs.Run.{runTo, behind, turns}
-use Rattle.gpu_planner.specs.RunLaws.{lent-turn-is, lent-turn-on, turns-over, both-of}
-use borrow.Author.Needs.{needs}
+use Rattle.gpu_planner.specs.RunLaws.{lent-turn-is, lent-turn-on, next-top, turns-over, both-of}
 use Rattle.gpu_planner.proofs.run.run.Statement.{statement}
 use Rattle.gpu_planner.proofs.run.run.Tie as tie
 
 abbrev Inv-loop : tie.InvT-loop
-Inv-loop jobs₀ room₀ words₀ rest₀ count₀ steps₀ jobs room words rest count steps = (steps ≤ turns) × (behind count ≤ length words) × (length words ≡ length words₀) × (runTo (turns - steps) (wholePlan rest jobs room) steps count words ≡ runTo turns (wholePlan rest₀ jobs₀ room₀) 0 0 words₀)
+Inv-loop gpus₀ jobs₀ room₀ first words₀ rest₀ top₀ count₀ steps₀ gpus jobs room words rest top count steps = (steps ≤ turns) × (behind count ≤ length words) × (length words ≡ length words₀) × (runTo (turns - steps) (wholePlan rest gpus jobs room) steps count words ≡ runTo turns (wholePlan rest₀ gpus₀ jobs₀ room₀) 0 0 words₀) × freeFrom top (eventsOf room)
 
 abbrev μ-loop : tie.MeasureT-loop
-μ-loop jobs₀ room₀ words₀ rest₀ count₀ steps₀ jobs room words rest count steps = turns - steps
+μ-loop gpus₀ jobs₀ room₀ first words₀ rest₀ top₀ count₀ steps₀ gpus jobs room words rest top count steps = turns - steps
 
 loop-holds : tie.Need-loop-holds Inv-loop μ-loop
-loop-holds c = (omega arith, omega arith, refl, refl)
+loop-holds c = (omega arith, omega arith, refl, refl, c .before .pre .1)
 
 mul-at : tie.Need-mul-at Inv-loop μ-loop
 mul-at c = search needs
@@ -40,6 +42,9 @@ part-step-lent-end c = search needs
 step-lent-requires : tie.Need-step-lent-requires Inv-loop μ-loop
 step-lent-requires c κs = search needs
 
+next-top-requires : tie.Need-next-top-requires Inv-loop μ-loop
+next-top-requires c κs = search needs
+
 enum-known-answer : tie.Need-enum-known-answer Inv-loop μ-loop
 enum-known-answer c = search needs
 
@@ -47,7 +52,7 @@ lesser-requires : tie.Need-lesser-requires Inv-loop μ-loop
 lesser-requires c κs = search needs
 
 add-count : tie.Need-add-count Inv-loop μ-loop
-add-count c = search needs
+add-count c = record { fits = omega (arith, c .before .before .before .before .before .before .before .before .before .before .before .before .before .before .before .before .before .good .1 .1 .1 .1 .1 .0, c .before .before .before .before .before .before .before .before .before .before .before .before .before .before .before .loop .inv .1, c .before .before .before .before .before .before .before .before .before .before .before .before .before .before .before .loop .inv .2) }
 
 enum-told : tie.Need-enum-told Inv-loop μ-loop
 enum-told c = search needs
@@ -60,7 +65,7 @@ same-length c = search needs
 
 returns : tie.Need-returns Inv-loop μ-loop
 returns c =
-    let t : _ = lent-turn-is (wholePlan (c .before .before .before .before .before .before .before .before .before .before .before .loop .rest) (c .before .before .before .before .before .before .before .before .before .before .before .loop .jobs) (c .before .before .before .before .before .before .before .before .before .before .before .loop .room)) (c .before .before .before .before .before .before .before .before .before .before .before .loop .steps) (c .before .before .before .before .before .before .before .before .before .before .before .loop .count) (c .before .before .before .before .before .before .before .before .before .before .before .loop .words) (c .before .before .before .before .before .before .step-lent .last .1 .1 .1 .0) (c .before .before .before .before .before .before .step-lent .result .answer) (wholePlan (c .before .before .before .before .before .before .step-lent .result .rest) (c .before .before .before .before .before .before .step-lent .last .0) (c .before .before .before .before .before .before .step-lent .last .1 .0)) _ (c .before .before .before .before .before .before .step-lent .ensures) (omega arith) (c .before .before .before .before .before .before .before .before .before .before .before .loop .inv .3) in
+    let t : _ = lent-turn-is (wholePlan (c .before .before .before .before .before .before .before .before .before .before .before .before .before .before .loop .rest) (c .before .before .before .before .before .before .before .before .before .before .before .before .before .before .loop .gpus) (c .before .before .before .before .before .before .before .before .before .before .before .before .before .before .loop .jobs) (c .before .before .before .before .before .before .before .before .before .before .before .before .before .before .loop .room)) (c .before .before .before .before .before .before .before .before .before .before .before .before .before .before .loop .steps) (c .before .before .before .before .before .before .before .before .before .before .before .before .before .before .loop .count) (c .before .before .before .before .before .before .before .before .before .before .before .before .before .before .loop .words) (c .before .before .before .before .before .before .before .before .step-lent .last .1 .1 .1 .1 .1 .0) (c .before .before .before .before .before .before .before .before .step-lent .result .answer) (wholePlan (c .before .before .before .before .before .before .before .before .step-lent .result .rest) (c .before .before .before .before .before .before .before .before .step-lent .last .0) (c .before .before .before .before .before .before .before .before .step-lent .last .1 .0) (c .before .before .before .before .before .before .before .before .step-lent .last .1 .1 .0)) _ (c .before .before .before .before .before .before .before .before .step-lent .ensures) (omega arith) (c .before .before .before .before .before .before .before .before .before .before .before .before .before .before .loop .inv .3) in
     both-of _ _ (c .ended .result) _ (rw (c .before .enum-told .given .1) at t) (c .ended .ensures)
 
 enum-told-2 : tie.Need-enum-told-2 Inv-loop μ-loop
@@ -74,7 +79,7 @@ same-length-2 c = search needs
 
 returns-2 : tie.Need-returns-2 Inv-loop μ-loop
 returns-2 c =
-    let t : _ = lent-turn-is (wholePlan (c .before .before .before .before .before .before .before .before .before .before .before .loop .rest) (c .before .before .before .before .before .before .before .before .before .before .before .loop .jobs) (c .before .before .before .before .before .before .before .before .before .before .before .loop .room)) (c .before .before .before .before .before .before .before .before .before .before .before .loop .steps) (c .before .before .before .before .before .before .before .before .before .before .before .loop .count) (c .before .before .before .before .before .before .before .before .before .before .before .loop .words) (c .before .before .before .before .before .before .step-lent .last .1 .1 .1 .0) (c .before .before .before .before .before .before .step-lent .result .answer) (wholePlan (c .before .before .before .before .before .before .step-lent .result .rest) (c .before .before .before .before .before .before .step-lent .last .0) (c .before .before .before .before .before .before .step-lent .last .1 .0)) _ (c .before .before .before .before .before .before .step-lent .ensures) (omega arith) (c .before .before .before .before .before .before .before .before .before .before .before .loop .inv .3) in
+    let t : _ = lent-turn-is (wholePlan (c .before .before .before .before .before .before .before .before .before .before .before .before .before .before .loop .rest) (c .before .before .before .before .before .before .before .before .before .before .before .before .before .before .loop .gpus) (c .before .before .before .before .before .before .before .before .before .before .before .before .before .before .loop .jobs) (c .before .before .before .before .before .before .before .before .before .before .before .before .before .before .loop .room)) (c .before .before .before .before .before .before .before .before .before .before .before .before .before .before .loop .steps) (c .before .before .before .before .before .before .before .before .before .before .before .before .before .before .loop .count) (c .before .before .before .before .before .before .before .before .before .before .before .before .before .before .loop .words) (c .before .before .before .before .before .before .before .before .step-lent .last .1 .1 .1 .1 .1 .0) (c .before .before .before .before .before .before .before .before .step-lent .result .answer) (wholePlan (c .before .before .before .before .before .before .before .before .step-lent .result .rest) (c .before .before .before .before .before .before .before .before .step-lent .last .0) (c .before .before .before .before .before .before .before .before .step-lent .last .1 .0) (c .before .before .before .before .before .before .before .before .step-lent .last .1 .1 .0)) _ (c .before .before .before .before .before .before .before .before .step-lent .ensures) (omega arith) (c .before .before .before .before .before .before .before .before .before .before .before .before .before .before .loop .inv .3) in
     both-of _ _ (c .ended2 .result) _ (rw (c .before .enum-told2 .given .1) at t) (c .ended2 .ensures)
 
 enum-told-3 : tie.Need-enum-told-3 Inv-loop μ-loop
@@ -88,7 +93,7 @@ same-length-3 c = search needs
 
 returns-3 : tie.Need-returns-3 Inv-loop μ-loop
 returns-3 c =
-    let t : _ = lent-turn-is (wholePlan (c .before .before .before .before .before .before .before .before .before .before .before .loop .rest) (c .before .before .before .before .before .before .before .before .before .before .before .loop .jobs) (c .before .before .before .before .before .before .before .before .before .before .before .loop .room)) (c .before .before .before .before .before .before .before .before .before .before .before .loop .steps) (c .before .before .before .before .before .before .before .before .before .before .before .loop .count) (c .before .before .before .before .before .before .before .before .before .before .before .loop .words) (c .before .before .before .before .before .before .step-lent .last .1 .1 .1 .0) (c .before .before .before .before .before .before .step-lent .result .answer) (wholePlan (c .before .before .before .before .before .before .step-lent .result .rest) (c .before .before .before .before .before .before .step-lent .last .0) (c .before .before .before .before .before .before .step-lent .last .1 .0)) _ (c .before .before .before .before .before .before .step-lent .ensures) (omega arith) (c .before .before .before .before .before .before .before .before .before .before .before .loop .inv .3) in
+    let t : _ = lent-turn-is (wholePlan (c .before .before .before .before .before .before .before .before .before .before .before .before .before .before .loop .rest) (c .before .before .before .before .before .before .before .before .before .before .before .before .before .before .loop .gpus) (c .before .before .before .before .before .before .before .before .before .before .before .before .before .before .loop .jobs) (c .before .before .before .before .before .before .before .before .before .before .before .before .before .before .loop .room)) (c .before .before .before .before .before .before .before .before .before .before .before .before .before .before .loop .steps) (c .before .before .before .before .before .before .before .before .before .before .before .before .before .before .loop .count) (c .before .before .before .before .before .before .before .before .before .before .before .before .before .before .loop .words) (c .before .before .before .before .before .before .before .before .step-lent .last .1 .1 .1 .1 .1 .0) (c .before .before .before .before .before .before .before .before .step-lent .result .answer) (wholePlan (c .before .before .before .before .before .before .before .before .step-lent .result .rest) (c .before .before .before .before .before .before .before .before .step-lent .last .0) (c .before .before .before .before .before .before .before .before .step-lent .last .1 .0) (c .before .before .before .before .before .before .before .before .step-lent .last .1 .1 .0)) _ (c .before .before .before .before .before .before .before .before .step-lent .ensures) (omega arith) (c .before .before .before .before .before .before .before .before .before .before .before .before .before .before .loop .inv .3) in
     both-of _ _ (c .ended3 .result) _ (rw (c .before .enum-told3 .given .1) at t) (c .ended3 .ensures)
 
 add-steps : tie.Need-add-steps Inv-loop μ-loop
@@ -99,9 +104,9 @@ loop-less c = search needs
 
 loop-again : tie.Need-loop-again Inv-loop μ-loop
 loop-again c =
-    let l : _ = c .before .before .before .before .before .before .words .given in
-    let t : _ = lent-turn-on (wholePlan (c .before .before .before .before .before .before .before .before .before .before .before .before .loop .rest) (c .before .before .before .before .before .before .before .before .before .before .before .before .loop .jobs) (c .before .before .before .before .before .before .before .before .before .before .before .before .loop .room)) (c .before .before .before .before .before .before .before .before .before .before .before .before .loop .steps) (c .before .before .before .before .before .before .before .before .before .before .before .before .loop .count) (c .before .before .before .before .before .before .before .before .before .before .before .before .loop .words) (c .before .before .before .before .before .before .before .step-lent .last .1 .1 .1 .0) (c .before .before .before .before .before .before .before .step-lent .result .answer) (wholePlan (c .before .before .before .before .before .before .before .step-lent .result .rest) (c .before .before .before .before .before .before .before .step-lent .last .0) (c .before .before .before .before .before .before .before .step-lent .last .1 .0)) _ (c .before .before .before .before .before .before .before .step-lent .ensures) (omega arith) (c .before .before .before .before .before .before .before .before .before .before .before .before .loop .inv .3) _ (c .lesser .result) (c .before .before .answer .given .1) (c .lesser .ensures) (l .1) (omega arith) in
-    (omega arith, t .0, l .1 ∙ c .before .before .before .before .before .before .before .before .before .before .before .before .loop .inv .2, t .1)
+    let l : _ = c .before .before .before .before .before .before .before .before .words .given in
+    let t : _ = lent-turn-on (wholePlan (c .before .before .before .before .before .before .before .before .before .before .before .before .before .before .before .loop .rest) (c .before .before .before .before .before .before .before .before .before .before .before .before .before .before .before .loop .gpus) (c .before .before .before .before .before .before .before .before .before .before .before .before .before .before .before .loop .jobs) (c .before .before .before .before .before .before .before .before .before .before .before .before .before .before .before .loop .room)) (c .before .before .before .before .before .before .before .before .before .before .before .before .before .before .before .loop .steps) (c .before .before .before .before .before .before .before .before .before .before .before .before .before .before .before .loop .count) (c .before .before .before .before .before .before .before .before .before .before .before .before .before .before .before .loop .words) (c .before .before .before .before .before .before .before .before .before .step-lent .last .1 .1 .1 .1 .1 .0) (c .before .before .before .before .before .before .before .before .before .step-lent .result .answer) (wholePlan (c .before .before .before .before .before .before .before .before .before .step-lent .result .rest) (c .before .before .before .before .before .before .before .before .before .step-lent .last .0) (c .before .before .before .before .before .before .before .before .before .step-lent .last .1 .0) (c .before .before .before .before .before .before .before .before .before .step-lent .last .1 .1 .0)) _ (c .before .before .before .before .before .before .before .before .before .step-lent .ensures) (omega arith) (c .before .before .before .before .before .before .before .before .before .before .before .before .before .before .before .loop .inv .3) _ (c .lesser .result) (c .before .before .answer .given .1) (c .lesser .ensures) (l .1) (omega arith) in
+    (omega arith, t .0, l .1 ∙ c .before .before .before .before .before .before .before .before .before .before .before .before .before .before .before .loop .inv .2, t .1, next-top (wholePlan (c .before .before .before .before .before .before .before .before .before .before .before .before .before .before .before .loop .rest) (c .before .before .before .before .before .before .before .before .before .before .before .before .before .before .before .loop .gpus) (c .before .before .before .before .before .before .before .before .before .before .before .before .before .before .before .loop .jobs) (c .before .before .before .before .before .before .before .before .before .before .before .before .before .before .before .loop .room)) (wholePlan (c .before .before .before .before .before .before .before .before .before .step-lent .result .rest) (c .before .before .before .before .before .before .before .before .before .step-lent .last .0) (c .before .before .before .before .before .before .before .before .before .step-lent .last .1 .0) (c .before .before .before .before .before .before .before .before .before .step-lent .last .1 .1 .0)) _ (c .before .before .before .before .before .before .before .before .before .before .before .before .before .before .before .loop .top) (c .before .before .before .before .next-top .result) (c .before .before .before .before .before .before .before .before .before .before .before .before .before .before .before .loop .inv .4) (c .before .before .before .before .before .before .before .before .before .step-lent .ensures .1 .0) (c .before .before .before .before .next-top .ensures))
 
 ended-requires-4 : tie.Need-ended-requires-4 Inv-loop μ-loop
 ended-requires-4 c κs = search needs
@@ -111,7 +116,7 @@ same-length-4 c = search needs
 
 returns-4 : tie.Need-returns-4 Inv-loop μ-loop
 unfolding runTo
-returns-4 c = both-of _ _ (c .ended4 .result) _ (sym (turns-over (wholePlan (c .before .before .loop .rest) (c .before .before .loop .jobs) (c .before .before .loop .room)) (c .before .before .loop .steps) (c .before .before .loop .count) (c .before .before .loop .words) (omega arith)) ∙ c .before .before .loop .inv .3) (c .ended4 .ensures)
+returns-4 c = both-of _ _ (c .ended4 .result) _ (sym (turns-over (wholePlan (c .before .before .loop .rest) (c .before .before .loop .gpus) (c .before .before .loop .jobs) (c .before .before .loop .room)) (c .before .before .loop .steps) (c .before .before .loop .count) (c .before .before .loop .words) (omega arith)) ∙ c .before .before .loop .inv .3) (c .ended4 .ensures)
 
 pub run-spec : {M : Type 1} → statement M
 run-spec =
@@ -127,6 +132,7 @@ run-spec =
     part-step-lent-start
     part-step-lent-end
     step-lent-requires
+    next-top-requires
     enum-known-answer
     lesser-requires
     add-count

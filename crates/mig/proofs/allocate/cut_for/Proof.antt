@@ -10,8 +10,8 @@ first-idle-requires c κs = search needs
 free-elsewhere-requires : tie.Need-free-elsewhere-requires
 free-elsewhere-requires c κs = search needs
 
-gpu-at-requires : tie.Need-gpu-at-requires
-gpu-at-requires c κs = search needs
+read-gpu-requires : tie.Need-read-gpu-requires
+read-gpu-requires c κs = search needs
 
 new-slices-requires : tie.Need-new-slices-requires
 new-slices-requires c κs = search needs
@@ -22,8 +22,8 @@ wide-requires c κs = search needs
 give-in-order-requires : tie.Need-give-in-order-requires
 give-in-order-requires c κs = search needs
 
-put-gpu-requires : tie.Need-put-gpu-requires
-put-gpu-requires c κs = search needs
+write-gpu-requires : tie.Need-write-gpu-requires
+write-gpu-requires c κs = search needs
 
 returns : tie.Need-returns
 unfolding cutFor
@@ -35,9 +35,9 @@ cut-for-spec =
     (tie.spec
     first-idle-requires
     free-elsewhere-requires
-    gpu-at-requires
+    read-gpu-requires
     new-slices-requires
     wide-requires
     give-in-order-requires
-    put-gpu-requires
+    write-gpu-requires
     returns)

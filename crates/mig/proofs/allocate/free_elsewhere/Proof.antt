@@ -7,8 +7,8 @@ use Rattle.mig.proofs.allocate.free_elsewhere.Tie as tie
 free-in-all-requires : tie.Need-free-in-all-requires
 free-in-all-requires c κs = search needs
 
-gpu-at-requires : tie.Need-gpu-at-requires
-gpu-at-requires c κs = search needs
+read-gpu-requires : tie.Need-read-gpu-requires
+read-gpu-requires c κs = search needs
 
 free-slices-requires : tie.Need-free-slices-requires
 free-slices-requires c κs = search needs
@@ -23,4 +23,4 @@ returns c = cc
 pub free-elsewhere-spec : {M : Type 1} → statement M
 free-elsewhere-spec =
     tie.close
-    (tie.spec free-in-all-requires gpu-at-requires free-slices-requires minus-requires returns)
+    (tie.spec free-in-all-requires read-gpu-requires free-slices-requires minus-requires returns)

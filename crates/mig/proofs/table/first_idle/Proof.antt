@@ -3,6 +3,7 @@ use borrow.Author.Needs.{needs}
 use Rattle.mig.specs.TableSteps.{idle-start, idle-found, idle-next, idle-end}
 use Rattle.mig.specs.Table.{mayCutAt, firstIdle}
 use Rattle.laws.specs.Search.{first}
+use Rattle.rows.specs.Gpu.{gpusOf}
 use mathlib.Core.Path.{_≡_, sym, _∙_}
 use native.Mathlib.Omega.{arith}
 use Prim.Native.Nat.{_≤_, _-_}
@@ -10,10 +11,10 @@ use Rattle.mig.proofs.table.first_idle.Statement.{statement}
 use Rattle.mig.proofs.table.first_idle.Tie as tie
 
 abbrev Inv-loop : tie.InvT-loop
-Inv-loop n gpus m i₀ i = (i ≤ m) × (m ≤ 128) × (first (mayCutAt gpus) (m - i) i ≡ firstIdle gpus n)
+Inv-loop gpus n m i₀ i = (i ≤ m) × (m ≤ 128) × (first (mayCutAt (gpusOf gpus)) (m - i) i ≡ firstIdle (gpusOf gpus) n)
 
 abbrev μ-loop : tie.MeasureT-loop
-μ-loop n gpus m i₀ i = m - i
+μ-loop gpus n m i₀ i = m - i
 
 lesser-requires : tie.Need-lesser-requires Inv-loop μ-loop
 lesser-requires c κs = search needs
@@ -21,17 +22,14 @@ lesser-requires c κs = search needs
 loop-holds : tie.Need-loop-holds Inv-loop μ-loop
 loop-holds c = (omega arith, omega arith, idle-start _ _ _ (c .lesser .ensures))
 
-mul-may-cut : tie.Need-mul-may-cut Inv-loop μ-loop
-mul-may-cut c = search needs
-
-array-copy-out-may-cut : tie.Need-array-copy-out-may-cut Inv-loop μ-loop
-array-copy-out-may-cut c = search needs
+read-gpu-requires : tie.Need-read-gpu-requires Inv-loop μ-loop
+read-gpu-requires c κs = search needs
 
 may-cut-requires : tie.Need-may-cut-requires Inv-loop μ-loop
 may-cut-requires c κs = search needs
 
 returns : tie.Need-returns Inv-loop μ-loop
-returns c = idle-found (c .before .before .before .before .before .before .args .t1) (c .before .before .before .before .before .before .args .n) (c .before .before .before .before .before .lesser .result) (c .before .before .before .before .loop .i) _ (omega arith) (omega arith) (sym (c .before .may-cut .ensures) ∙ c .if1 .taken) (c .before .before .before .before .loop .inv .2)
+returns c = idle-found (gpusOf (c .before .before .before .before .before .before .args .gpus .now)) (c .before .before .before .before .before .before .args .n) (c .before .before .before .before .before .lesser .result) (c .before .before .before .before .loop .i) (omega arith) (rw (← c .before .before .read-gpu .ensures) (sym (c .before .may-cut .ensures) ∙ c .if1 .taken)) (c .before .before .before .before .loop .inv .2)
 
 add-i : tie.Need-add-i Inv-loop μ-loop
 add-i c = search needs
@@ -40,10 +38,10 @@ loop-less : tie.Need-loop-less Inv-loop μ-loop
 loop-less c = omega arith
 
 loop-again : tie.Need-loop-again Inv-loop μ-loop
-loop-again c = (omega arith, omega arith, idle-next (c .before .before .before .before .before .before .args .t1) (c .before .before .before .before .before .before .args .n) (c .before .before .before .before .before .lesser .result) (c .before .before .before .before .loop .i) _ (omega arith) (omega arith) (sym (c .before .may-cut .ensures) ∙ c .if1 .left) (c .before .before .before .before .loop .inv .2))
+loop-again c = (omega arith, omega arith, idle-next (gpusOf (c .before .before .before .before .before .before .args .gpus .now)) (c .before .before .before .before .before .before .args .n) (c .before .before .before .before .before .lesser .result) (c .before .before .before .before .loop .i) (omega arith) (rw (← c .before .before .read-gpu .ensures) (sym (c .before .may-cut .ensures) ∙ c .if1 .left)) (c .before .before .before .before .loop .inv .2))
 
 returns-2 : tie.Need-returns-2 Inv-loop μ-loop
-returns-2 c = idle-end (c .before .before .before .args .t1) (c .before .before .before .args .n) (c .before .before .lesser .result) (c .before .loop .i) (omega arith) (omega arith) (c .before .loop .inv .2)
+returns-2 c = idle-end (gpusOf (c .before .before .before .args .gpus .now)) (c .before .before .before .args .n) (c .before .before .lesser .result) (c .before .loop .i) (omega arith) (omega arith) (c .before .loop .inv .2)
 
 pub first-idle-spec : {M : Type 1} → statement M
 first-idle-spec =
@@ -53,8 +51,7 @@ first-idle-spec =
     μ-loop
     lesser-requires
     loop-holds
-    mul-may-cut
-    array-copy-out-may-cut
+    read-gpu-requires
     may-cut-requires
     returns
     add-i

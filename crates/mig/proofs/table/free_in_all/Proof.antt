@@ -3,18 +3,23 @@ use borrow.Author.Needs.{needs}
 use Rattle.mig.specs.TableSteps.{free-count, free-turn, free-end}
 use Rattle.mig.specs.Slices.{freeSlices}
 use Rattle.laws.specs.Sums.{sumOver}
+use Rattle.model.specs.Gpu.{noGpu}
+use Rattle.rows.specs.Gpu.{gpusOf}
 use lib.ListN.{take}
-use mathlib.Core.Path.{_≡_, refl, _∙_}
+use mathlib.Core.Path.{_≡_, refl, ap, _∙_}
 use native.Mathlib.Omega.{arith}
-use Prim.Native.Nat.{_≤_, _-_, _*_}
+use Prim.Native.Nat.{_≤_, _-_, _*_, min}
 use Rattle.mig.proofs.table.free_in_all.Statement.{statement}
 use Rattle.mig.proofs.table.free_in_all.Tie as tie
 
 abbrev Inv-loop : tie.InvT-loop
-Inv-loop n profile gpus m sum₀ i₀ sum i = (i ≤ m) × (m ≤ 128) × (sum ≤ 7 * i) × (sum ≡ sumOver (λ g. freeSlices g profile) (take i gpus))
+Inv-loop gpus n profile m sum₀ i₀ sum i = (i ≤ m) × (m ≤ 128) × (sum ≤ 7 * i) × (sum ≡ sumOver (λ g. freeSlices g profile) (take i (gpusOf gpus)))
 
 abbrev μ-loop : tie.MeasureT-loop
-μ-loop n profile gpus m sum₀ i₀ sum i = m - i
+μ-loop gpus n profile m sum₀ i₀ sum i = m - i
+
+gpu-places-requires : tie.Need-gpu-places-requires Inv-loop μ-loop
+gpu-places-requires c κs = search needs
 
 lesser-requires : tie.Need-lesser-requires Inv-loop μ-loop
 lesser-requires c κs = search needs
@@ -23,11 +28,8 @@ loop-holds : tie.Need-loop-holds Inv-loop μ-loop
 unfolding sumOver
 loop-holds c = (omega arith, omega arith, omega arith, refl)
 
-mul-free-slices : tie.Need-mul-free-slices Inv-loop μ-loop
-mul-free-slices c = search needs
-
-array-copy-out-free-slices : tie.Need-array-copy-out-free-slices Inv-loop μ-loop
-array-copy-out-free-slices c = search needs
+read-gpu-requires : tie.Need-read-gpu-requires Inv-loop μ-loop
+read-gpu-requires c κs = search needs
 
 free-slices-requires : tie.Need-free-slices-requires Inv-loop μ-loop
 free-slices-requires c κs = search needs
@@ -42,10 +44,10 @@ loop-less : tie.Need-loop-less Inv-loop μ-loop
 loop-less c = omega arith
 
 loop-again : tie.Need-loop-again Inv-loop μ-loop
-loop-again c = let h : c .free-slices .result ≤ 7 = free-count _ _ (c .free-slices .ensures) in (omega arith, omega arith, omega arith, free-turn (c .before .before .before .before .before .args .t1) (c .before .before .before .before .before .args .profile) (c .before .before .before .loop .i) (c .before .before .before .loop .sum) (c .free-slices .result) _ (omega arith) (c .before .before .before .loop .inv .3) (c .free-slices .ensures))
+loop-again c = let h : c .free-slices .result ≤ 7 = free-count _ _ (c .free-slices .ensures) in (omega arith, omega arith, omega arith, free-turn (gpusOf (c .before .before .before .before .before .before .args .gpus .now)) (c .before .before .before .before .before .before .args .profile) (c .before .before .before .loop .i) (c .before .before .before .loop .sum) (c .free-slices .result) noGpu (omega arith) (c .before .before .before .loop .inv .3) (rw (← c .before .read-gpu .ensures) (c .free-slices .ensures)))
 
 returns : tie.Need-returns Inv-loop μ-loop
-returns c = c .before .loop .inv .3 ∙ free-end (c .before .before .before .args .t1) (c .before .before .before .args .n) (c .before .before .before .args .profile) (c .before .before .lesser .result) (c .before .loop .i) (c .before .before .lesser .ensures) (omega arith) (omega arith)
+returns c = c .before .loop .inv .3 ∙ free-end (gpusOf (c .before .before .before .before .args .gpus .now)) (c .before .before .before .before .args .n) (c .before .before .before .before .args .profile) (c .before .before .lesser .result) (c .before .loop .i) (c .before .before .lesser .ensures ∙ ap (min _) (c .before .before .before .gpu-places .ensures .0)) (omega arith) (omega arith)
 
 pub free-in-all-spec : {M : Type 1} → statement M
 free-in-all-spec =
@@ -53,10 +55,10 @@ free-in-all-spec =
     (tie.spec
     Inv-loop
     μ-loop
+    gpu-places-requires
     lesser-requires
     loop-holds
-    mul-free-slices
-    array-copy-out-free-slices
+    read-gpu-requires
     free-slices-requires
     add-sum
     add-i

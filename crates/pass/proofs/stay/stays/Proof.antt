@@ -1,6 +1,7 @@
 -- `pass::stay::stays` meets its contract.
 use mathlib.Core.Path.{sym, ap, _∙_}
 use mathlib.Core.Bool.{not}
+use Rattle.rows.specs.Gpu.{gpusOf}
 use Rattle.rows.specs.Job.{jobsOf}
 use Rattle.resource.specs.Cause.{isNone}
 use Rattle.pass.specs.Stay.{stay-other, stay-whole, stay-mig}
@@ -21,7 +22,7 @@ whole-stays-requires : tie.Need-whole-stays-requires
 whole-stays-requires c κs = search needs
 
 returns : tie.Need-returns
-returns c = c .whole-stays .ensures ∙ stay-whole (c .before .before .before .before .before .before .before .before .args .setting) (c .before .before .before .before .before .before .before .before .args .gpus) (jobsOf (c .before .before .before .before .before .before .before .before .args .jobs .now)) (c .before .before .before .before .before .before .before .before .args .id) (c .before .before .before .before .before .before .read-job .result) (c .before .before .before .before .before .before .read-job .ensures ∙ rw (c .before .before .before .before .before .before .before .wide-id .ensures)) (sym (c .before .before .before .before .before .is-waiting .ensures) ∙ c .before .before .before .before .if1 .taken) (c .before .if2 .taken)
+returns c = c .whole-stays .ensures ∙ stay-whole (c .before .before .before .before .before .before .before .before .args .setting) (gpusOf (c .before .before .before .before .before .before .before .before .args .gpus .now)) (jobsOf (c .before .before .before .before .before .before .before .before .args .jobs .now)) (c .before .before .before .before .before .before .before .before .args .id) (c .before .before .before .before .before .before .read-job .result) (c .before .before .before .before .before .before .read-job .ensures ∙ rw (c .before .before .before .before .before .before .before .wide-id .ensures)) (sym (c .before .before .before .before .before .is-waiting .ensures) ∙ c .before .before .before .before .if1 .taken) (c .before .if2 .taken)
 
 resource-cause-requires : tie.Need-resource-cause-requires
 resource-cause-requires c κs = search needs
@@ -30,10 +31,10 @@ is-none-requires : tie.Need-is-none-requires
 is-none-requires c κs = search needs
 
 returns-2 : tie.Need-returns-2
-returns-2 c = ap not (c .is-none .ensures ∙ ap isNone (c .before .resource-cause .ensures)) ∙ stay-mig (c .before .before .before .before .before .before .before .before .before .args .setting) (c .before .before .before .before .before .before .before .before .before .args .gpus) (jobsOf (c .before .before .before .before .before .before .before .before .before .args .jobs .now)) (c .before .before .before .before .before .before .before .before .before .args .id) (c .before .before .before .before .before .before .before .read-job .result) (c .before .before .before .before .before .before .before .read-job .ensures ∙ rw (c .before .before .before .before .before .before .before .before .wide-id .ensures)) (sym (c .before .before .before .before .before .before .is-waiting .ensures) ∙ c .before .before .before .before .before .if1 .taken) (c .before .before .if2 .left)
+returns-2 c = ap not (c .is-none .ensures ∙ ap isNone (c .before .resource-cause .ensures)) ∙ stay-mig (c .before .before .before .before .before .before .before .before .before .args .setting) (gpusOf (c .before .before .before .before .before .before .before .before .before .args .gpus .now)) (jobsOf (c .before .before .before .before .before .before .before .before .before .args .jobs .now)) (c .before .before .before .before .before .before .before .before .before .args .id) (c .before .before .before .before .before .before .before .read-job .result) (c .before .before .before .before .before .before .before .read-job .ensures ∙ rw (c .before .before .before .before .before .before .before .before .wide-id .ensures)) (sym (c .before .before .before .before .before .before .is-waiting .ensures) ∙ c .before .before .before .before .before .if1 .taken) (c .before .before .if2 .left)
 
 returns-3 : tie.Need-returns-3
-returns-3 c = stay-other (c .before .before .before .before .args .setting) (c .before .before .before .before .args .gpus) (jobsOf (c .before .before .before .before .args .jobs .now)) (c .before .before .before .before .args .id) (c .before .before .read-job .result) (c .before .before .read-job .ensures ∙ rw (c .before .before .before .wide-id .ensures)) (sym (c .before .is-waiting .ensures) ∙ c .if1 .left)
+returns-3 c = stay-other (c .before .before .before .before .args .setting) (gpusOf (c .before .before .before .before .args .gpus .now)) (jobsOf (c .before .before .before .before .args .jobs .now)) (c .before .before .before .before .args .id) (c .before .before .read-job .result) (c .before .before .read-job .ensures ∙ rw (c .before .before .before .wide-id .ensures)) (sym (c .before .is-waiting .ensures) ∙ c .if1 .left)
 
 pub stays-spec : {M : Type 1} → statement M
 stays-spec =

@@ -1,42 +1,54 @@
 -- `pass::stay::within_reach` meets its contract.
-use mathlib.Core.Path.{_≡_, refl, _∙_}
-use Prim.Native.Nat.{_≤_, _-_}
+use mathlib.Core.Path.{_≡_, refl, sym, _∙_}
+use mathlib.Core.Logic.{⊎-elim}
+use Prim.Native.Nat.{_+_, _-_, _≤_, min}
 use native.Mathlib.Omega.{arith}
-use lib.ListN.{length}
 use Rattle.laws.specs.Search.{those}
+use Rattle.rows.specs.Gpu.{gpusOf}
 use Rattle.rows.specs.Job.{jobsOf}
-use Rattle.pass.specs.Stay.{reachableAt, bit-most, reachable-is, count-turn, reach-end}
+use Rattle.eligible.specs.Turns.{Kept, kept-none, kept-done, those-turn-take, those-turn-skip, those-size}
+use Rattle.pass.specs.Stay.{reachableAt, reachables, reach-read}
+use Rattle.pass.specs.RankLaws.{high-out}
 use borrow.Author.Needs.{needs}
 use Rattle.pass.proofs.stay.within_reach.Statement.{statement}
 use Rattle.pass.proofs.stay.within_reach.Tie as tie
 
 abbrev Inv-loop : tie.InvT-loop
-Inv-loop aware n sites jobs ask gpus m k₀ i₀ k i = (i ≤ m) × (m ≤ 128) × (k ≤ i) × (k ≡ length (those (reachableAt aware sites (jobsOf jobs) ask gpus) i 0))
+Inv-loop aware gpus n sites jobs ranks ask m ids₀ k₀ i₀ ids k i = (i ≤ m) × (m ≡ min n 128) × (k ≤ i) × Kept ids k (those (reachableAt aware sites (jobsOf jobs) ask (gpusOf gpus)) i 0)
 
 abbrev μ-loop : tie.MeasureT-loop
-μ-loop aware n sites jobs ask gpus m k₀ i₀ k i = m - i
+μ-loop aware gpus n sites jobs ranks ask m ids₀ k₀ i₀ ids k i = m - i
 
 lesser-requires : tie.Need-lesser-requires Inv-loop μ-loop
 lesser-requires c κs = search needs
 
+no-ids-requires : tie.Need-no-ids-requires Inv-loop μ-loop
+no-ids-requires c κs = search needs
+
 loop-holds : tie.Need-loop-holds Inv-loop μ-loop
 unfolding those
-loop-holds c = (omega arith, omega arith, omega arith, refl)
+loop-holds c = (omega arith, c .before .lesser .ensures, omega arith, kept-none _ _ (c .no-ids .ensures) refl)
 
-mul-is-reachable : tie.Need-mul-is-reachable Inv-loop μ-loop
-mul-is-reachable c = search needs
+is-low-requires : tie.Need-is-low-requires Inv-loop μ-loop
+is-low-requires c κs = search needs
 
-array-copy-out-is-reachable : tie.Need-array-copy-out-is-reachable Inv-loop μ-loop
-array-copy-out-is-reachable c = search needs
+read-gpu-requires : tie.Need-read-gpu-requires Inv-loop μ-loop
+read-gpu-requires c κs = search needs
 
 is-reachable-requires : tie.Need-is-reachable-requires Inv-loop μ-loop
 is-reachable-requires c κs = search needs
 
-one-if-requires : tie.Need-one-if-requires Inv-loop μ-loop
-one-if-requires c κs = search needs
+cast-ids : tie.Need-cast-ids Inv-loop μ-loop
+cast-ids c = search needs
+
+mul-ids : tie.Need-mul-ids Inv-loop μ-loop
+mul-ids c = search needs
+
+array-write-ids : tie.Need-array-write-ids Inv-loop μ-loop
+array-write-ids c = search needs
 
 add-k : tie.Need-add-k Inv-loop μ-loop
-add-k c = record { fits = omega (arith, bit-most (c .before .is-reachable .result), c .one-if .ensures) }
+add-k c = search needs
 
 add-i : tie.Need-add-i Inv-loop μ-loop
 add-i c = search needs
@@ -46,11 +58,21 @@ loop-less c = omega arith
 
 loop-again : tie.Need-loop-again Inv-loop μ-loop
 loop-again c =
-    let n : c .one-if .result ≤ 1 = omega (arith, bit-most (c .before .is-reachable .result), c .one-if .ensures) in
-    (omega arith, omega arith, omega arith, count-turn (reachableAt (c .before .before .before .before .before .before .args .aware) (c .before .before .before .before .before .before .args .sites) (jobsOf (c .before .before .before .before .before .before .args .jobs .now)) (c .before .before .before .before .before .before .args .ask) (c .before .before .before .before .before .before .args .t2)) (c .before .before .before .before .loop .i) (c .before .before .before .before .loop .k) (c .before .is-reachable .result) (c .one-if .result) (c .before .before .before .before .loop .inv .3) (reachable-is (c .before .before .before .before .before .before .args .aware) (c .before .before .before .before .before .before .args .sites) (jobsOf (c .before .before .before .before .before .before .args .jobs .now)) (c .before .before .before .before .before .before .args .ask) (c .before .before .before .before .before .before .args .t2) (c .before .before .before .before .loop .i) _ (c .before .is-reachable .result) (omega arith) (c .before .is-reachable .ensures)) (c .one-if .ensures))
+    let f : Kept (c .if1 .ids) (c .if1 .k) (those (reachableAt (c .before .before .before .before .before .before .before .args .aware) (c .before .before .before .before .before .before .before .args .sites) (jobsOf (c .before .before .before .before .before .before .before .args .jobs .now)) (c .before .before .before .before .before .before .before .args .ask) (gpusOf (c .before .before .before .before .before .before .before .args .gpus .now))) (c .before .before .before .before .loop .i + 1) 0) =
+    ⊎-elim
+    (λ w. rw (w .4, w .5) (those-turn-take _ _ _ _ (omega arith) (reach-read (c .before .before .before .before .before .before .before .args .aware) (c .before .before .before .before .before .before .before .args .sites) (jobsOf (c .before .before .before .before .before .before .before .args .jobs .now)) (c .before .before .before .before .before .before .before .args .ask) (gpusOf (c .before .before .before .before .before .before .before .args .gpus .now)) (c .before .before .before .before .loop .i) (w .1 .result) (w .2 .result) (w .1 .ensures) (w .2 .ensures) ∙ w .3 .taken) (c .before .before .before .before .loop .inv .3)))
+    (λ v. ⊎-elim
+    (λ w. rw (w .4, w .5) (those-turn-skip _ _ _ _ (reach-read (c .before .before .before .before .before .before .before .args .aware) (c .before .before .before .before .before .before .before .args .sites) (jobsOf (c .before .before .before .before .before .before .before .args .jobs .now)) (c .before .before .before .before .before .before .before .args .ask) (gpusOf (c .before .before .before .before .before .before .before .args .gpus .now)) (c .before .before .before .before .loop .i) (w .1 .result) (w .2 .result) (w .1 .ensures) (w .2 .ensures) ∙ w .3 .left) (c .before .before .before .before .loop .inv .3)))
+    (λ w. rw (w .1, w .2) (those-turn-skip _ _ _ _ (high-out (c .before .before .before .before .before .before .before .args .aware) (gpusOf (c .before .before .before .before .before .before .before .args .gpus .now)) (c .before .before .before .before .before .before .before .args .n) (c .before .before .before .before .before .before .before .args .sites) (jobsOf (c .before .before .before .before .before .before .before .args .jobs .now)) (c .before .before .before .before .before .before .before .args .ask) (c .before .before .before .before .before .before .before .args .ranks .now) (c .before .before .before .before .before .before .before .pre) (c .before .before .before .before .loop .i) (omega arith) (sym (c .before .is-low .ensures) ∙ w .0 .left)) (c .before .before .before .before .loop .inv .3)))
+    v)
+    (c .if1 .came) in
+    (omega arith, c .before .before .before .before .loop .inv .1, those-size _ _ _ _ f, f)
 
 returns : tie.Need-returns Inv-loop μ-loop
-returns c = c .before .loop .inv .3 ∙ reach-end (c .before .before .before .args .aware) (c .before .before .before .args .t2) (c .before .before .before .args .n) (c .before .before .before .args .sites) (jobsOf (c .before .before .before .args .jobs .now)) (c .before .before .before .args .ask) (c .before .before .lesser .result) (c .before .loop .i) (c .before .before .lesser .ensures) (omega arith)
+unfolding reachables
+returns c =
+    let i : c .before .loop .i ≡ min (c .before .before .before .before .args .n) 128 = omega arith in
+    kept-done _ _ _ (c .before .loop .inv .3) ∙ rw i
 
 pub within-reach-spec : {M : Type 1} → statement M
 within-reach-spec =
@@ -59,11 +81,14 @@ within-reach-spec =
     Inv-loop
     μ-loop
     lesser-requires
+    no-ids-requires
     loop-holds
-    mul-is-reachable
-    array-copy-out-is-reachable
+    is-low-requires
+    read-gpu-requires
     is-reachable-requires
-    one-if-requires
+    cast-ids
+    mul-ids
+    array-write-ids
     add-k
     add-i
     loop-less

@@ -9,7 +9,7 @@ join-all-requires c κs = search needs
 
 returns : tie.Need-returns
 unfolding madeWay
-returns c = rw (c .join-all .ensures)
+returns c = λ gpus. rw (c .join-all .ensures)
 
 pub make-way-spec : {M : Type 1} → statement M
 make-way-spec = tie.close (tie.spec join-all-requires returns)

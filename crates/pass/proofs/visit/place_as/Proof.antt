@@ -21,7 +21,7 @@ onward-requires c κs = search needs
 
 returns : tie.Need-returns
 unfolding placedAs
-returns c = rw (c .onward .ensures, c .before .put-placing .ensures, c .before .before .write-job .ensures, c .before .before .before .place .ensures, c .before .before .before .before .wide-id .ensures)
+returns c = λ gpus. rw (c .onward .ensures, c .before .put-placing .ensures, c .before .before .write-job .ensures, c .before .before .before .place .ensures, c .before .before .before .before .wide-id .ensures)
 
 pub place-as-spec : {M : Type 1} → statement M
 place-as-spec =

@@ -24,7 +24,7 @@ consider-requires : tie.Need-consider-requires
 consider-requires c κs = search needs
 
 returns-2 : tie.Need-returns-2
-returns-2 c = visited-waiting _ _ _ _ _ (c .before .before .before .before .before .before .read-job .ensures ∙ rw (c .before .before .before .before .before .before .before .wide-id .ensures)) _ (sym (c .before .before .before .before .before .is-waiting .ensures) ∙ c .before .before .before .before .if1 .taken) (sym (c .before .before .before .is-among .ensures) ∙ c .before .before .if2 .left) (c .consider .ensures)
+returns-2 c = visited-waiting _ _ _ _ _ (c .before .before .before .before .before .before .before .read-job .ensures ∙ rw (c .before .before .before .before .before .before .before .before .wide-id .ensures)) _ (sym (c .before .before .before .before .before .before .is-waiting .ensures) ∙ c .before .before .before .before .before .if1 .taken) (sym (c .before .before .before .before .is-among .ensures) ∙ c .before .before .before .if2 .left) (c .consider .ensures)
 
 returns-3 : tie.Need-returns-3
 returns-3 c = visited-other _ _ _ _ _ (c .before .before .read-job .ensures ∙ rw (c .before .before .before .wide-id .ensures)) (sym (c .before .is-waiting .ensures) ∙ c .if1 .left)

@@ -12,7 +12,7 @@ with-queue-requires c κs = search needs
 
 returns : tie.Need-returns
 unfolding sorted
-returns c = rw (c .with-queue .ensures, c .before .sort-queue .ensures)
+returns c = λ gpus. rw (c .with-queue .ensures, c .before .sort-queue .ensures)
 
 pub sort-line-spec : {M : Type 1} → statement M
 sort-line-spec = tie.close (tie.spec sort-queue-requires with-queue-requires returns)

@@ -3,6 +3,9 @@ use mathlib.Core.Path.{_≡_, sym, _∙_}
 use Prim.Native.Nat.{_≤_, _-_}
 use native.Mathlib.Omega.{arith}
 use Rattle.laws.specs.Loop.{through, through-step, through-end}
+use Rattle.rows.specs.Gpu.{gpusOf}
+use Rattle.rows.specs.Job.{jobsOf}
+use Rattle.pass.specs.Rank.{ranksOf}
 use Rattle.pass.specs.Visit.{wholePass}
 use Rattle.pass.specs.Walk.{visitAt}
 use Rattle.pass.specs.StayLaws.{skip-step}
@@ -11,17 +14,23 @@ use Rattle.pass.proofs.walk.visit_all.Statement.{statement}
 use Rattle.pass.proofs.walk.visit_all.Tie as tie
 
 abbrev Inv-loop : tie.InvT-loop
-Inv-loop setting clock jobs₀ queue m work₀ i₀ jobs work i =
-    (i ≤ m) × (m ≤ 128) × (through (visitAt setting clock queue) (wholePass work jobs) (m - i) i ≡ through (visitAt setting clock queue) (wholePass work₀ jobs₀) m 0)
+Inv-loop setting clock gpus₀ jobs₀ queue m work₀ n ranks₀ i₀ gpus jobs work ranks i =
+    (i ≤ m) × (m ≤ 128) × (ranks ≡ ranksOf (gpusOf gpus) (jobsOf jobs) (setting .gpus)) × (through (visitAt setting clock queue) (wholePass work gpus jobs) (m - i) i ≡ through (visitAt setting clock queue) (wholePass work₀ gpus₀ jobs₀) m 0)
 
 abbrev μ-loop : tie.MeasureT-loop
-μ-loop setting clock jobs₀ queue m work₀ i₀ jobs work i = m - i
+μ-loop setting clock gpus₀ jobs₀ queue m work₀ n ranks₀ i₀ gpus jobs work ranks i = m - i
 
 lesser-requires : tie.Need-lesser-requires Inv-loop μ-loop
 lesser-requires c κs = search needs
 
+cast-n : tie.Need-cast-n Inv-loop μ-loop
+cast-n c = search needs
+
+ranks-of-requires : tie.Need-ranks-of-requires Inv-loop μ-loop
+ranks-of-requires c κs = search needs
+
 loop-holds : tie.Need-loop-holds Inv-loop μ-loop
-loop-holds c = let e : c .lesser .result - 0 ≡ c .lesser .result = omega arith in (omega arith, omega arith, rw e)
+loop-holds c = let e : c .before .before .before .before .lesser .result - 0 ≡ c .before .before .before .before .lesser .result = omega arith in (omega arith, omega arith, c .ranks-of .ensures, rw e)
 
 mul-stays : tie.Need-mul-stays Inv-loop μ-loop
 mul-stays c = search needs
@@ -36,11 +45,11 @@ add-i : tie.Need-add-i Inv-loop μ-loop
 add-i c = search needs
 
 loop-less : tie.Need-loop-less Inv-loop μ-loop
-loop-less c = omega arith
+loop-less c = search needs
 
 loop-again : tie.Need-loop-again Inv-loop μ-loop
 loop-again c =
-    (omega arith, omega arith, skip-step (c .before .before .before .before .before .before .before .before .before .args .setting) (c .before .before .before .before .before .before .before .before .before .args .clock) (c .before .before .before .before .before .before .before .before .before .args .turn .line .queue) (wholePass (c .before .before .before .before .before .loop .work) (c .before .before .before .before .before .loop .jobs)) (c .before .before .before .before .before .before .lesser .result) (c .before .before .before .before .before .loop .i) (omega arith) (sym (c .before .stays .ensures) ∙ c .if1 .taken) ∙ c .before .before .before .before .before .loop .inv .2)
+    (omega arith, omega arith, c .before .before .before .before .before .before .loop .inv .2, skip-step (c .before .before .before .before .before .before .before .before .before .before .before .before .before .before .args .setting) (c .before .before .before .before .before .before .before .before .before .before .before .before .before .before .args .clock) (c .before .before .before .before .before .before .before .before .before .before .before .before .before .before .args .turn .line .queue) (wholePass (c .before .before .before .before .before .before .loop .work) (c .before .before .before .before .before .before .loop .gpus) (c .before .before .before .before .before .before .loop .jobs)) (c .before .before .before .before .before .before .before .before .before .before .before .lesser .result) (c .before .before .before .before .before .before .loop .i) (omega arith) (sym (c .before .stays .ensures) ∙ c .if1 .taken) ∙ c .before .before .before .before .before .before .loop .inv .3)
 
 mul-visit : tie.Need-mul-visit Inv-loop μ-loop
 mul-visit c = search needs
@@ -51,18 +60,21 @@ array-read-visit c = search needs
 visit-requires : tie.Need-visit-requires Inv-loop μ-loop
 visit-requires c κs = search needs
 
+ranks-of-requires-2 : tie.Need-ranks-of-requires-2 Inv-loop μ-loop
+ranks-of-requires-2 c κs = search needs
+
 add-i-2 : tie.Need-add-i-2 Inv-loop μ-loop
 add-i-2 c = search needs
 
 loop-less-2 : tie.Need-loop-less-2 Inv-loop μ-loop
-loop-less-2 c = omega arith
+loop-less-2 c = search needs
 
 loop-again-2 : tie.Need-loop-again-2 Inv-loop μ-loop
 loop-again-2 c =
-    (omega arith, omega arith, rw (c .visit .ensures) (through-step (visitAt (c .before .before .before .before .before .before .before .before .before .before .before .args .setting) (c .before .before .before .before .before .before .before .before .before .before .before .args .clock) (c .before .before .before .before .before .before .before .before .before .before .before .args .turn .line .queue)) (wholePass (c .before .before .before .before .before .before .before .loop .work) (c .before .before .before .before .before .before .before .loop .jobs)) (c .before .before .before .before .before .before .before .before .lesser .result) (c .before .before .before .before .before .before .before .loop .i) (omega arith) ∙ c .before .before .before .before .before .before .before .loop .inv .2))
+    (omega arith, omega arith, c .ranks-of2 .ensures, rw (c .before .before .before .visit .ensures) (through-step (visitAt (c .before .before .before .before .before .before .before .before .before .before .before .before .before .before .before .before .before .before .before .before .args .setting) (c .before .before .before .before .before .before .before .before .before .before .before .before .before .before .before .before .before .before .before .before .args .clock) (c .before .before .before .before .before .before .before .before .before .before .before .before .before .before .before .before .before .before .before .before .args .turn .line .queue)) (wholePass (c .before .before .before .before .before .before .before .before .before .before .before .before .loop .work) (c .before .before .before .before .before .before .before .before .before .before .before .before .loop .gpus) (c .before .before .before .before .before .before .before .before .before .before .before .before .loop .jobs)) (c .before .before .before .before .before .before .before .before .before .before .before .before .before .before .before .before .before .lesser .result) (c .before .before .before .before .before .before .before .before .before .before .before .before .loop .i) (omega arith) ∙ c .before .before .before .before .before .before .before .before .before .before .before .before .loop .inv .3))
 
 returns : tie.Need-returns Inv-loop μ-loop
-returns c = through-end (visitAt (c .before .before .before .before .before .args .setting) (c .before .before .before .before .before .args .clock) (c .before .before .before .before .before .args .turn .line .queue)) (wholePass (c .before .loop .work) (c .before .loop .jobs)) (c .before .before .lesser .result) (c .before .loop .i) (omega arith) ∙ c .before .loop .inv .2 ∙ rw (c .before .before .lesser .ensures)
+returns c = through-end (visitAt (c .before .before .before .before .before .before .before .before .before .args .setting) (c .before .before .before .before .before .before .before .before .before .args .clock) (c .before .before .before .before .before .before .before .before .before .args .turn .line .queue)) (wholePass (c .before .loop .work) (c .before .loop .gpus) (c .before .loop .jobs)) (c .before .before .before .before .before .before .lesser .result) (c .before .loop .i) (omega arith) ∙ c .before .loop .inv .3 ∙ rw (c .before .before .before .before .before .before .lesser .ensures)
 
 pub visit-all-spec : {M : Type 1} → statement M
 visit-all-spec =
@@ -71,6 +83,8 @@ visit-all-spec =
     Inv-loop
     μ-loop
     lesser-requires
+    cast-n
+    ranks-of-requires
     loop-holds
     mul-stays
     array-read-stays
@@ -81,6 +95,7 @@ visit-all-spec =
     mul-visit
     array-read-visit
     visit-requires
+    ranks-of-requires-2
     add-i-2
     loop-less-2
     loop-again-2

@@ -11,7 +11,7 @@ visit-all-requires : tie.Need-visit-all-requires
 visit-all-requires c κs = search needs
 
 returns : tie.Need-returns
-returns c = walked-is _ _ _ _ _ (c .before .before .sort-line .ensures) (c .visit-all .ensures)
+returns c = walked-is _ _ _ _ _ (c .before .before .before .sort-line .ensures (c .before .before .before .before .before .args .gpus .now)) (c .visit-all .ensures)
 
 pub walk-spec : {M : Type 1} → statement M
 walk-spec = tie.close (tie.spec sort-line-requires visit-all-requires returns)

@@ -1,5 +1,6 @@
 -- `preemptive::prefix::make_room` meets its contract.
 use Rattle.preemptive.specs.PrefixSteps.{Tried, tried-none, tried-next, tried-found, tried-end}
+use Rattle.rows.specs.Gpu.{gpusOf}
 use Rattle.rows.specs.Job.{jobsOf}
 use lib.Seq.{getD-take}
 use lib.ListN.{length, take, length-take}
@@ -11,16 +12,16 @@ use Rattle.preemptive.proofs.prefix.make_room.Statement.{statement}
 use Rattle.preemptive.proofs.prefix.make_room.Tie as tie
 
 abbrev Inv-loop : tie.InvT-loop
-Inv-loop setting clock gpus jobs₀ j count ids n free₀ left₀ k₀ jobs free left k = (k ≤ n) × (n ≡ length (take count ids)) × (n ≤ count) × (jobs ≡ jobs₀) × Tried setting clock gpus (jobsOf jobs₀) j (take count ids) k free (jobsOf left)
+Inv-loop setting clock gpus₀ jobs₀ j count ids n free₀ left₀ k₀ gpus jobs free left k = (k ≤ n) × (n ≡ length (take count ids)) × (n ≤ count) × (gpus ≡ gpus₀) × (jobs ≡ jobs₀) × Tried setting clock (gpusOf gpus₀) (jobsOf jobs₀) j (take count ids) k (gpusOf free) (jobsOf left)
 
 abbrev μ-loop : tie.MeasureT-loop
-μ-loop setting clock gpus jobs₀ j count ids n free₀ left₀ k₀ jobs free left k = n - k
+μ-loop setting clock gpus₀ jobs₀ j count ids n free₀ left₀ k₀ gpus jobs free left k = n - k
 
 lesser-requires : tie.Need-lesser-requires Inv-loop μ-loop
 lesser-requires c κs = search needs
 
 loop-holds : tie.Need-loop-holds Inv-loop μ-loop
-loop-holds c = (omega arith, omega (arith, c .before .lesser .ensures, length-take (c .before .before .args .count) (c .before .before .args .t6)), omega (arith, c .before .lesser .ensures), refl, tried-none _ _ _ _ _ _)
+loop-holds c = (omega arith, omega (arith, c .before .before .lesser .ensures, length-take (c .before .before .before .args .count) (c .before .before .before .args .t6)), omega (arith, c .before .before .lesser .ensures), refl, refl, tried-none _ _ _ _ _ _)
 
 mul-v : tie.Need-mul-v Inv-loop μ-loop
 mul-v c = search needs
@@ -44,16 +45,16 @@ is-placeable-requires : tie.Need-is-placeable-requires Inv-loop μ-loop
 is-placeable-requires c κs = search needs
 
 returns : tie.Need-returns Inv-loop μ-loop
-returns c = tried-found (c .before .before .before .before .before .before .before .before .before .before .before .args .setting) (c .before .before .before .before .before .before .before .before .before .before .before .args .clock) (c .before .before .before .before .before .before .before .before .before .before .before .args .gpus) (jobsOf (c .before .before .before .before .before .before .before .before .before .before .before .args .jobs .now)) (c .before .before .before .before .before .before .before .before .before .before .before .args .j) (take (c .before .before .before .before .before .before .before .before .before .before .before .args .count) (c .before .before .before .before .before .before .before .before .before .before .before .args .t6)) (c .before .before .before .before .before .before .before .before .loop .k) _ (c .before .before .before .before .before .before .before .before .loop .free) (jobsOf (c .before .before .before .before .before .before .before .before .loop .left)) _ _ (omega arith) (sym (getD-take (c .before .before .before .before .before .before .before .before .before .before .before .args .count) (c .before .before .before .before .before .before .before .before .before .before .before .args .t6) (c .before .before .before .before .before .before .before .before .loop .k) 0 (omega arith))) (c .before .before .before .before .before .before .before .before .loop .inv .4) (rw (← c .before .before .before .before .before .before .plus-one .ensures) (c .before .before .before .before .before .free-all .ensures)) (c .before .before .before .evict-one .ensures) (c .before .before .before .before .before .before .before .before .before .before .before .args .t6) _ (c .before .is-placeable .ensures) (c .if1 .taken)
+returns c = tried-found (c .before .before .before .before .before .before .before .before .before .before .before .before .before .before .args .setting) (c .before .before .before .before .before .before .before .before .before .before .before .before .before .before .args .clock) (gpusOf (c .before .before .before .before .before .before .before .before .before .before .before .before .before .before .args .gpus .now)) (jobsOf (c .before .before .before .before .before .before .before .before .before .before .before .before .before .before .args .jobs .now)) (c .before .before .before .before .before .before .before .before .before .before .before .before .before .before .args .j) (take (c .before .before .before .before .before .before .before .before .before .before .before .before .before .before .args .count) (c .before .before .before .before .before .before .before .before .before .before .before .before .before .before .args .t6)) (c .before .before .before .before .before .before .before .before .before .before .loop .k) _ (gpusOf (c .before .before .before .before .before .before .before .before .before .before .loop .free)) (jobsOf (c .before .before .before .before .before .before .before .before .before .before .loop .left)) _ _ (omega arith) (sym (getD-take (c .before .before .before .before .before .before .before .before .before .before .before .before .before .before .args .count) (c .before .before .before .before .before .before .before .before .before .before .before .before .before .before .args .t6) (c .before .before .before .before .before .before .before .before .before .before .loop .k) 0 (omega arith))) (c .before .before .before .before .before .before .before .before .before .before .loop .inv .5) (rw (← c .before .before .before .before .before .before .before .plus-one .ensures) (c .before .before .before .before .before .before .free-all .ensures)) (c .before .before .before .before .evict-one .ensures) (c .before .before .before .before .before .before .before .before .before .before .before .before .before .before .args .t6) _ (c .before .is-placeable .ensures) (c .if1 .taken)
 
 loop-less : tie.Need-loop-less Inv-loop μ-loop
 loop-less c = omega arith
 
 loop-again : tie.Need-loop-again Inv-loop μ-loop
-loop-again c = (omega arith, (c .before .before .before .before .before .before .before .before .loop .inv .1), (c .before .before .before .before .before .before .before .before .loop .inv .2), (c .before .before .before .before .before .before .before .before .loop .inv .3), tried-next (c .before .before .before .before .before .before .before .before .before .before .before .args .setting) (c .before .before .before .before .before .before .before .before .before .before .before .args .clock) (c .before .before .before .before .before .before .before .before .before .before .before .args .gpus) (jobsOf (c .before .before .before .before .before .before .before .before .before .before .before .args .jobs .now)) (c .before .before .before .before .before .before .before .before .before .before .before .args .j) (take (c .before .before .before .before .before .before .before .before .before .before .before .args .count) (c .before .before .before .before .before .before .before .before .before .before .before .args .t6)) (c .before .before .before .before .before .before .before .before .loop .k) _ (c .before .before .before .before .before .before .before .before .loop .free) (jobsOf (c .before .before .before .before .before .before .before .before .loop .left)) _ _ (omega arith) (sym (getD-take (c .before .before .before .before .before .before .before .before .before .before .before .args .count) (c .before .before .before .before .before .before .before .before .before .before .before .args .t6) (c .before .before .before .before .before .before .before .before .loop .k) 0 (omega arith))) (c .before .before .before .before .before .before .before .before .loop .inv .4) (rw (← c .before .before .before .before .before .before .plus-one .ensures) (c .before .before .before .before .before .free-all .ensures)) (c .before .before .before .evict-one .ensures) _ (c .before .is-placeable .ensures) (c .if1 .left))
+loop-again c = (omega arith, (c .before .before .before .before .before .before .before .before .before .before .loop .inv .1), (c .before .before .before .before .before .before .before .before .before .before .loop .inv .2), (c .before .before .before .before .before .before .before .before .before .before .loop .inv .3), (c .before .before .before .before .before .before .before .before .before .before .loop .inv .4), tried-next (c .before .before .before .before .before .before .before .before .before .before .before .before .before .before .args .setting) (c .before .before .before .before .before .before .before .before .before .before .before .before .before .before .args .clock) (gpusOf (c .before .before .before .before .before .before .before .before .before .before .before .before .before .before .args .gpus .now)) (jobsOf (c .before .before .before .before .before .before .before .before .before .before .before .before .before .before .args .jobs .now)) (c .before .before .before .before .before .before .before .before .before .before .before .before .before .before .args .j) (take (c .before .before .before .before .before .before .before .before .before .before .before .before .before .before .args .count) (c .before .before .before .before .before .before .before .before .before .before .before .before .before .before .args .t6)) (c .before .before .before .before .before .before .before .before .before .before .loop .k) _ (gpusOf (c .before .before .before .before .before .before .before .before .before .before .loop .free)) (jobsOf (c .before .before .before .before .before .before .before .before .before .before .loop .left)) _ _ (omega arith) (sym (getD-take (c .before .before .before .before .before .before .before .before .before .before .before .before .before .before .args .count) (c .before .before .before .before .before .before .before .before .before .before .before .before .before .before .args .t6) (c .before .before .before .before .before .before .before .before .before .before .loop .k) 0 (omega arith))) (c .before .before .before .before .before .before .before .before .before .before .loop .inv .5) (rw (← c .before .before .before .before .before .before .before .plus-one .ensures) (c .before .before .before .before .before .before .free-all .ensures)) (c .before .before .before .before .evict-one .ensures) _ (c .before .is-placeable .ensures) (c .if1 .left))
 
 returns-2 : tie.Need-returns-2 Inv-loop μ-loop
-returns-2 c = rw (c .before .loop .inv .3) (tried-end _ _ _ _ _ _ _ _ _ _ (omega arith) (c .before .loop .inv .4))
+returns-2 c = rw (c .before .loop .inv .3, c .before .loop .inv .4) (tried-end _ _ _ _ _ _ _ _ _ _ (omega arith) (c .before .loop .inv .5))
 
 pub make-room-spec : {M : Type 1} → statement M
 make-room-spec =

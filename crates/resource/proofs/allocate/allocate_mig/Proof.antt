@@ -1,6 +1,7 @@
 -- `resource::allocate::allocate_mig` meets its contract.
 use borrow.Author.Needs.{needs}
-use Rattle.resource.specs.Allocate.{slicesGot}
+use Rattle.rows.specs.Gpu.{gpusOf}
+use Rattle.resource.specs.AllocateCases.{slices-given}
 use Rattle.resource.proofs.allocate.allocate_mig.Statement.{statement}
 use Rattle.resource.proofs.allocate.allocate_mig.Tie as tie
 
@@ -17,8 +18,7 @@ allocate-slices-requires : tie.Need-allocate-slices-requires
 allocate-slices-requires c κs = search needs
 
 returns : tie.Need-returns
-unfolding slicesGot
-returns c = rw (c .before .allocate-slices .ensures, c .before .before .before .most-at .ensures, c .before .before .before .before .wide-less .ensures)
+returns c = slices-given (c .before .before .before .before .before .before .before .args .setting) (gpusOf (c .before .before .before .before .before .before .before .args .gpus .now)) (c .before .before .before .before .before .before .before .args .j) (c .before .before .before .before .before .before .before .args .owner) (c .allocate-slices .result) (c .allocate-slices .last .0) (c .before .before .before .before .wide-less .result) (c .before .before .before .most-at .result) (c .before .before .before .before .wide-less .ensures) (c .before .before .before .most-at .ensures) (c .allocate-slices .ensures)
 
 pub allocate-mig-spec : {M : Type 1} → statement M
 allocate-mig-spec =

@@ -1,6 +1,7 @@
 -- `resource::allocate::allocate_whole` meets its contract.
 use borrow.Author.Needs.{needs}
-use Rattle.resource.specs.Allocate.{wholeAllocated}
+use Rattle.rows.specs.Gpu.{gpusOf}
+use Rattle.resource.specs.AllocateCases.{chosen-given}
 use Rattle.resource.proofs.allocate.allocate_whole.Statement.{statement}
 use Rattle.resource.proofs.allocate.allocate_whole.Tie as tie
 
@@ -14,8 +15,7 @@ give-gpus-requires : tie.Need-give-gpus-requires
 give-gpus-requires c κs = search needs
 
 returns : tie.Need-returns
-unfolding wholeAllocated
-returns c = rw (c .give-gpus .ensures, c .before .before .before .choose-gpus .ensures)
+returns c = chosen-given (c .before .before .before .before .before .before .before .before .before .before .args .setting) (gpusOf (c .before .before .before .before .before .before .before .before .before .before .args .gpus .now)) (c .before .before .before .before .before .before .before .before .before .before .args .j) (c .before .before .before .before .before .before .before .before .before .before .args .owner) (c .before .before .before .before .choose-gpus .result) (c .give-gpus .last .0) (c .before .before .before .before .choose-gpus .ensures) (c .give-gpus .ensures)
 
 pub allocate-whole-spec : {M : Type 1} → statement M
 allocate-whole-spec =

@@ -31,9 +31,36 @@ half-of-requires c κs = search needs
 array-read-t21 : tie.Need-array-read-t21
 array-read-t21 c = search needs
 
+array-read-half-of-2 : tie.Need-array-read-half-of-2
+array-read-half-of-2 c = search needs
+
+half-of-requires-2 : tie.Need-half-of-requires-2
+half-of-requires-2 c κs = search needs
+
+array-read-byte-of-3 : tie.Need-array-read-byte-of-3
+array-read-byte-of-3 c = search needs
+
+byte-of-requires-3 : tie.Need-byte-of-requires-3
+byte-of-requires-3 c κs = search needs
+
+array-read-byte-of-4 : tie.Need-array-read-byte-of-4
+array-read-byte-of-4 c = search needs
+
+byte-of-requires-4 : tie.Need-byte-of-requires-4
+byte-of-requires-4 c κs = search needs
+
+array-read-halves-of : tie.Need-array-read-halves-of
+array-read-halves-of c = search needs
+
+array-read-halves-of-2 : tie.Need-array-read-halves-of-2
+array-read-halves-of-2 c = search needs
+
+halves-of-requires : tie.Need-halves-of-requires
+halves-of-requires c κs = search needs
+
 returns : tie.Need-returns
 unfolding gpuOf
-returns c = rw (c .before .before .before .byte-of .ensures, c .before .before .byte-of2 .ensures, c .before .float-of .ensures, c .half-of .ensures)
+returns c = rw (c .before .before .before .before .before .before .before .byte-of .ensures, c .before .before .before .before .before .before .byte-of2 .ensures, c .before .before .before .before .before .float-of .ensures, c .before .before .before .before .half-of .ensures, c .before .before .before .half-of2 .ensures, c .before .before .byte-of3 .ensures, c .before .byte-of4 .ensures, c .halves-of .ensures)
 
 pub gpu-of-spec : {M : Type 1} → statement M
 gpu-of-spec =
@@ -48,4 +75,13 @@ gpu-of-spec =
     array-read-half-of
     half-of-requires
     array-read-t21
+    array-read-half-of-2
+    half-of-requires-2
+    array-read-byte-of-3
+    byte-of-requires-3
+    array-read-byte-of-4
+    byte-of-requires-4
+    array-read-halves-of
+    array-read-halves-of-2
+    halves-of-requires
     returns)

@@ -9,8 +9,8 @@ use Rattle.rows.proofs.gpu.put_in.Tie as tie
 card-of-requires : tie.Need-card-of-requires
 card-of-requires c κs = search needs
 
-mul-t11 : tie.Need-mul-t11
-mul-t11 c = search needs
+mul-t7 : tie.Need-mul-t7
+mul-t7 c = search needs
 
 slice-set-from-cards : tie.Need-slice-set-from-cards
 slice-set-from-cards c = search needs
@@ -26,5 +26,4 @@ returns-2 c = past-row-written gpuOf (c .before .args .cards .now) (c .before .a
 
 pub put-in-spec : {M : Type 1} → statement M
 put-in-spec =
-    tie.close
-    (tie.spec card-of-requires mul-t11 slice-set-from-cards same-length returns returns-2)
+    tie.close (tie.spec card-of-requires mul-t7 slice-set-from-cards same-length returns returns-2)

@@ -1,0 +1,68 @@
+-- `rows::gpu::put_all` meets its contract.
+use borrow.Author.Needs.{needs}
+use Rattle.rows.specs.Gpu.{gpuOf}
+use Rattle.rows.specs.Rows.{write-step, write-end}
+use lib.ListN.{length, take, length-set}
+use native.Mathlib.Omega.{arith}
+use Prim.Native.Nat.{_≤_, _-_}
+use mathlib.Core.List.{map}
+use mathlib.Core.Path.{_≡_, refl}
+use Rattle.rows.proofs.gpu.put_all.Statement.{statement}
+use Rattle.rows.proofs.gpu.put_all.Tie as tie
+
+abbrev Inv-loop : tie.InvT-loop
+Inv-loop cards₀ table i₀ cards i = (i ≤ 128) × (length cards ≡ 128) × (take i (map gpuOf cards) ≡ take i table)
+
+abbrev μ-loop : tie.MeasureT-loop
+μ-loop cards₀ table i₀ cards i = 128 - i
+
+loop-holds : tie.Need-loop-holds Inv-loop μ-loop
+loop-holds c = (omega arith, c .pre, refl)
+
+mul-card-of : tie.Need-mul-card-of Inv-loop μ-loop
+mul-card-of c = search needs
+
+array-copy-out-card-of : tie.Need-array-copy-out-card-of Inv-loop μ-loop
+array-copy-out-card-of c = search needs
+
+card-of-requires : tie.Need-card-of-requires Inv-loop μ-loop
+card-of-requires c κs = search needs
+
+mul-t11 : tie.Need-mul-t11 Inv-loop μ-loop
+mul-t11 c = search needs
+
+slice-set-from-cards : tie.Need-slice-set-from-cards Inv-loop μ-loop
+slice-set-from-cards c = search needs
+
+add-i : tie.Need-add-i Inv-loop μ-loop
+add-i c = search needs
+
+loop-less : tie.Need-loop-less Inv-loop μ-loop
+loop-less c = omega arith
+
+loop-again : tie.Need-loop-again Inv-loop μ-loop
+loop-again c = (omega arith, simp length-set (omega arith), write-step gpuOf (c .before .before .before .loop .cards) (c .before .before .before .before .args .t2) (c .before .before .before .loop .i) (c .card-of .result) _ (omega arith) (omega arith) (c .card-of .ensures) (c .before .before .before .loop .inv .2))
+
+same-length : tie.Need-same-length Inv-loop μ-loop
+same-length c = search needs
+
+returns : tie.Need-returns Inv-loop μ-loop
+returns c = write-end gpuOf (c .before .loop .cards) (c .before .before .args .t2) (c .before .loop .i) (omega arith) (omega arith) (c .before .loop .inv .2)
+
+pub put-all-spec : {M : Type 1} → statement M
+put-all-spec =
+    tie.close
+    (tie.spec
+    Inv-loop
+    μ-loop
+    loop-holds
+    mul-card-of
+    array-copy-out-card-of
+    card-of-requires
+    mul-t11
+    slice-set-from-cards
+    add-i
+    loop-less
+    loop-again
+    same-length
+    returns)
