@@ -2,12 +2,15 @@
 use mathlib.Core.Path.{_≡_, refl, sym, ap, _∙_}
 use mathlib.Core.Bool.{Bool, true, false}
 use mathlib.Core.List.{List}
+use Prim.Native.Nat.{ℕ}
 use Rattle.laws.specs.Choice.{pick}
 use Rattle.model.specs.declared.event.Event.{Event}
 use Rattle.model.specs.declared.event.EventKind.{EventKind}
 use Rattle.model.specs.declared.event.EventKind.the-variants.{Empty, Arrival, Completion, Timeout}
 use Rattle.model.specs.declared.plan.Plan.{Plan}
 use Rattle.room.specs.Room.{used, eventAt, least, taken}
+use Rattle.room.specs.Top.{freeFrom, leastUnder}
+use Rattle.room.specs.TopLaws.{least-under}
 use Rattle.happen.specs.Happen.{stale, arrived, completed, timedOut}
 use Rattle.engine.specs.Settle.{settled}
 use Rattle.happen.specs.declared.Moment.{Moment}
@@ -43,6 +46,15 @@ advanced p = let m = happened (withEvent p) (nextEvent p) in pick (m .goes) (set
 -- the least event, and the entry that it stands in
 unfoldable pub foundIn : List Event → Found
 foundIn events = record { at = least events; event = eventAt events (least events) }
+
+-- the least of those below a top
+unfoldable pub foundUnder : ℕ → List Event → Found
+foundUnder top events = record { at = leastUnder top events; event = eventAt events (leastUnder top events) }
+
+-- it is the least of all where no entry from the top on is used
+pub found-under : (top : ℕ) (events : List Event) → freeFrom top events → foundUnder top events ≡ foundIn events
+unfolding foundUnder foundIn
+found-under top events free = rw (least-under top events free)
 
 -- the plan without the event in that entry, at its time
 unfoldable pub withFound : Plan → Found → Plan

@@ -20,9 +20,8 @@ use rows::gpu::CARD;
 use rows::job::ROW;
 ghost use mathlib.Core.Path.{_≡_};
 ghost use Rattle.rows.specs.Event.{eventsOf};
-ghost use Rattle.room.specs.Top.{freeFrom};
 ghost use Rattle.happen.specs.Happen.{wholePlan, wholeMoment};
-ghost use Rattle.engine.specs.Advance.{happened, foundIn, advancedBy};
+ghost use Rattle.engine.specs.Advance.{happened, foundUnder, advancedBy};
 
 // An event, and the entry that it stands in.
 pub struct Found {
@@ -30,10 +29,9 @@ pub struct Found {
     pub event: Event,
 }
 
-// The least event; an empty one where there is none. No entry from the top on holds one.
+// The least event of the entries below the top; an empty one where there is none.
 pub fn next_event(room: &[[u64; ENTRY]; EVENTS], top: usize) -> Found
-    requires { ⌜ freeFrom top (eventsOf (now room)) ⌝ }
-    ensures { λ r. ⌜ r ≡ foundIn (eventsOf (now (room .entry))) ⌝ }
+    ensures { λ r. ⌜ r ≡ foundUnder top (eventsOf (now (room .entry))) ⌝ }
 {
     let at = least_under(room, top);
     Found {

@@ -18,12 +18,10 @@ use rows::gpu::read_gpus;
 use rows::job::ROW;
 use rows::job::read_jobs;
 ghost use mathlib.Core.Path.{_≡_};
-ghost use lib.ListN.{length};
 ghost use Rattle.rows.specs.Event.{eventsOf};
 ghost use Rattle.room.specs.Top.{freeFrom};
 ghost use Rattle.happen.specs.Happen.{wholePlan};
-ghost use Rattle.planner.specs.Step.{stepped, wordsAfter};
-ghost use Rattle.planner.specs.Lent.{restOf, leftIn};
+ghost use Rattle.planner.specs.Lent.{restOf, Left};
 
 // The answer to a step, and the plan after it beside its tables.
 pub struct SteppedRest {
@@ -81,7 +79,7 @@ fn leave(answer: Taken, rest: Rest) -> SteppedRest
 }
 
 // Takes one step in the lent tables. Where a number is not permitted it has changed them, and the buffer alone is as it was;
-// otherwise refused, it leaves everything as it was.
+// otherwise refused, it leaves everything as it was. What it leaves is said of a top from which on no entry of the room is used.
 pub fn step_lent(
     gpus: &mut [[u64; CARD]; GPUS],
     jobs: &mut [[u64; ROW]; JOBS],
@@ -90,10 +88,9 @@ pub fn step_lent(
     top: usize,
     decisions: &mut [u64],
 ) -> SteppedRest
-    requires { ⌜ freeFrom top (eventsOf (now room)) ⌝ }
-    ensures { λ r. ⌜ r .answer ≡ stepped (wholePlan rest (now (gpus .entry)) (now (jobs .entry)) (now (room .entry))) (length (now (decisions .entry))) .answer ⌝ }
-    ensures { λ r. ⌜ wholePlan (r .rest) (now (gpus .exit)) (now (jobs .exit)) (now (room .exit)) ≡ leftIn (wholePlan rest (now (gpus .entry)) (now (jobs .entry)) (now (room .entry))) (length (now (decisions .entry))) ⌝ }
-    ensures { λ _. ⌜ now (decisions .exit) ≡ wordsAfter (wholePlan rest (now (gpus .entry)) (now (jobs .entry)) (now (room .entry))) (now (decisions .entry)) ⌝ }
+    ensures { λ r. ⌜ (freeFrom top (eventsOf (now (room .entry)))
+        → Left (wholePlan rest (now (gpus .entry)) (now (jobs .entry)) (now (room .entry))) (now (decisions .entry)) (r .answer)
+        (wholePlan (r .rest) (now (gpus .exit)) (now (jobs .exit)) (now (room .exit))) (now (decisions .exit))) ⌝ }
 {
     if decisions.len() < WORDS {
         return leave(Taken::ShortBuffer, rest);

@@ -21,7 +21,7 @@ rest-of-requires : tie.Need-rest-of-requires
 rest-of-requires c κs = search needs
 
 step-lent-requires : tie.Need-step-lent-requires
-step-lent-requires c κs = λ i l h. absurd (omega arith)
+step-lent-requires c κs = search needs
 
 is-taken-requires : tie.Need-is-taken-requires
 is-taken-requires c κs = search needs
@@ -33,13 +33,29 @@ same-length : tie.Need-same-length
 same-length c = search needs
 
 returns : tie.Need-returns
-returns c = done-lent (c .before .before .before .before .before .before .before .before .before .before .before .before .before .before .before .before .before .before .before .before .before .before .before .before .args .plan) (c .before .before .before .before .before .before .before .before .before .before .before .before .before .before .before .before .before .before .before .before .before .before .before .before .args .decisions .now) _ (ap (λ (r : Rest). wholePlan r (c .before .before .before .before .before .before .before .before .before .before .before .before .before .before .before .before .before .before .write-gpus .last .0) (c .before .before .before .before .before .before .before .before .before .before .before .before .before .before .before .before .write-jobs .last .0) (c .before .before .before .before .before .before .before .before .before .before .before .before .before .before .write-events .last .0)) (c .before .before .before .before .before .before .before .before .before .before .rest-of .ensures) ∙ whole-is (c .before .before .before .before .before .before .before .before .before .before .before .before .before .before .before .before .before .before .before .before .before .before .before .before .args .plan) (c .before .before .before .before .before .before .before .before .before .before .before .before .before .before .before .before .before .before .write-gpus .last .0) (c .before .before .before .before .before .before .before .before .before .before .before .before .before .before .before .before .write-jobs .last .0) (c .before .before .before .before .before .before .before .before .before .before .before .before .before .before .write-events .last .0) (c .before .before .before .before .before .before .before .before .before .before .before .before .before .before .before .before .before .before .write-gpus .ensures) (c .before .before .before .before .before .before .before .before .before .before .before .before .before .before .before .before .write-jobs .ensures) (c .before .before .before .before .before .before .before .before .before .before .before .before .before .before .write-events .ensures)) (c .before .before .before .before .before .before .before .before .step-lent .result .answer) (c .plan-of .result) _ (c .before .before .before .before .before .before .before .before .step-lent .ensures .0, (c .plan-of .ensures ∙ c .before .before .before .before .before .before .before .before .step-lent .ensures .1 .0, c .before .before .before .before .before .before .before .before .step-lent .ensures .1 .1)) (sym (c .before .before .before .before .before .is-taken .ensures) ∙ c .before .before .before .before .if1 .taken)
+returns c =
+    let a = c .before .before .before .before .before .before .before .before .before .before .before .before .before .before .before .before .before .before .before .before .before .before .before .before .args in
+    let g = c .before .before .before .before .before .before .before .before .before .before .before .before .before .before .before .before .before .before .write-gpus in
+    let j = c .before .before .before .before .before .before .before .before .before .before .before .before .before .before .before .before .write-jobs in
+    let e = c .before .before .before .before .before .before .before .before .before .before .before .before .before .before .write-events in
+    let s = c .before .before .before .before .before .before .before .before .step-lent in
+    let whole = ap (λ (r : Rest). wholePlan r (g .last .0) (j .last .0) (e .last .0)) (c .before .before .before .before .before .before .before .before .before .before .rest-of .ensures) ∙ whole-is (a .plan) (g .last .0) (j .last .0) (e .last .0) (g .ensures) (j .ensures) (e .ensures) in
+    let l = s .ensures (λ i l h. absurd (omega arith)) in
+    done-lent (a .plan) (a .decisions .now) _ whole (s .result .answer) (c .plan-of .result) _ (l .0, (c .plan-of .ensures ∙ l .1 .0, l .1 .1)) (sym (c .before .before .before .before .before .is-taken .ensures) ∙ c .before .before .before .before .if1 .taken)
 
 same-length-2 : tie.Need-same-length-2
 same-length-2 c = search needs
 
 returns-2 : tie.Need-returns-2
-returns-2 c = done-kept (c .before .before .before .before .before .before .before .before .before .before .before .before .before .before .before .before .before .before .before .before .args .plan) (c .before .before .before .before .before .before .before .before .before .before .before .before .before .before .before .before .before .before .before .before .args .decisions .now) _ (ap (λ (r : Rest). wholePlan r (c .before .before .before .before .before .before .before .before .before .before .before .before .before .before .write-gpus .last .0) (c .before .before .before .before .before .before .before .before .before .before .before .before .write-jobs .last .0) (c .before .before .before .before .before .before .before .before .before .before .write-events .last .0)) (c .before .before .before .before .before .before .rest-of .ensures) ∙ whole-is (c .before .before .before .before .before .before .before .before .before .before .before .before .before .before .before .before .before .before .before .before .args .plan) (c .before .before .before .before .before .before .before .before .before .before .before .before .before .before .write-gpus .last .0) (c .before .before .before .before .before .before .before .before .before .before .before .before .write-jobs .last .0) (c .before .before .before .before .before .before .before .before .before .before .write-events .last .0) (c .before .before .before .before .before .before .before .before .before .before .before .before .before .before .write-gpus .ensures) (c .before .before .before .before .before .before .before .before .before .before .before .before .write-jobs .ensures) (c .before .before .before .before .before .before .before .before .before .before .write-events .ensures)) (c .before .before .before .before .step-lent .result .answer) _ _ (c .before .before .before .before .step-lent .ensures) (sym (c .before .is-taken .ensures) ∙ c .if1 .left)
+returns-2 c =
+    let a = c .before .before .before .before .before .before .before .before .before .before .before .before .before .before .before .before .before .before .before .before .args in
+    let g = c .before .before .before .before .before .before .before .before .before .before .before .before .before .before .write-gpus in
+    let j = c .before .before .before .before .before .before .before .before .before .before .before .before .write-jobs in
+    let e = c .before .before .before .before .before .before .before .before .before .before .write-events in
+    let s = c .before .before .before .before .step-lent in
+    let whole = ap (λ (r : Rest). wholePlan r (g .last .0) (j .last .0) (e .last .0)) (c .before .before .before .before .before .before .rest-of .ensures) ∙ whole-is (a .plan) (g .last .0) (j .last .0) (e .last .0) (g .ensures) (j .ensures) (e .ensures) in
+    let l = s .ensures (λ i l h. absurd (omega arith)) in
+    done-kept (a .plan) (a .decisions .now) _ whole (s .result .answer) _ _ l (sym (c .before .is-taken .ensures) ∙ c .if1 .left)
 
 pub step-spec : {M : Type 1} → statement M
 step-spec =

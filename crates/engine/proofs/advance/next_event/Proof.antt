@@ -1,7 +1,6 @@
 -- `engine::advance::next_event` meets its contract.
 use borrow.Author.Needs.{needs}
-use Rattle.room.specs.TopLaws.{least-under}
-use Rattle.engine.specs.Advance.{foundIn}
+use Rattle.engine.specs.Advance.{foundUnder}
 use Rattle.engine.proofs.advance.next_event.Statement.{statement}
 use Rattle.engine.proofs.advance.next_event.Tie as tie
 
@@ -12,8 +11,8 @@ read-event-requires : tie.Need-read-event-requires
 read-event-requires c κs = search needs
 
 returns : tie.Need-returns
-unfolding foundIn
-returns c = rw (c .read-event .ensures, c .before .least-under .ensures, least-under (c .before .before .args .top) _ (c .before .before .pre))
+unfolding foundUnder
+returns c = rw (c .read-event .ensures, c .before .least-under .ensures)
 
 pub next-event-spec : {M : Type 1} → statement M
 next-event-spec = tie.close (tie.spec least-under-requires read-event-requires returns)

@@ -65,7 +65,7 @@ same-length c = search needs
 
 returns : tie.Need-returns Inv-loop μ-loop
 returns c =
-    let t : _ = lent-turn-is (wholePlan (c .before .before .before .before .before .before .before .before .before .before .before .before .before .before .loop .rest) (c .before .before .before .before .before .before .before .before .before .before .before .before .before .before .loop .gpus) (c .before .before .before .before .before .before .before .before .before .before .before .before .before .before .loop .jobs) (c .before .before .before .before .before .before .before .before .before .before .before .before .before .before .loop .room)) (c .before .before .before .before .before .before .before .before .before .before .before .before .before .before .loop .steps) (c .before .before .before .before .before .before .before .before .before .before .before .before .before .before .loop .count) (c .before .before .before .before .before .before .before .before .before .before .before .before .before .before .loop .words) (c .before .before .before .before .before .before .before .before .step-lent .last .1 .1 .1 .1 .1 .0) (c .before .before .before .before .before .before .before .before .step-lent .result .answer) (wholePlan (c .before .before .before .before .before .before .before .before .step-lent .result .rest) (c .before .before .before .before .before .before .before .before .step-lent .last .0) (c .before .before .before .before .before .before .before .before .step-lent .last .1 .0) (c .before .before .before .before .before .before .before .before .step-lent .last .1 .1 .0)) _ (c .before .before .before .before .before .before .before .before .step-lent .ensures) (omega arith) (c .before .before .before .before .before .before .before .before .before .before .before .before .before .before .loop .inv .3) in
+    let t : _ = lent-turn-is (wholePlan (c .before .before .before .before .before .before .before .before .before .before .before .before .before .before .loop .rest) (c .before .before .before .before .before .before .before .before .before .before .before .before .before .before .loop .gpus) (c .before .before .before .before .before .before .before .before .before .before .before .before .before .before .loop .jobs) (c .before .before .before .before .before .before .before .before .before .before .before .before .before .before .loop .room)) (c .before .before .before .before .before .before .before .before .before .before .before .before .before .before .loop .steps) (c .before .before .before .before .before .before .before .before .before .before .before .before .before .before .loop .count) (c .before .before .before .before .before .before .before .before .before .before .before .before .before .before .loop .words) (c .before .before .before .before .before .before .before .before .step-lent .last .1 .1 .1 .1 .1 .0) (c .before .before .before .before .before .before .before .before .step-lent .result .answer) (wholePlan (c .before .before .before .before .before .before .before .before .step-lent .result .rest) (c .before .before .before .before .before .before .before .before .step-lent .last .0) (c .before .before .before .before .before .before .before .before .step-lent .last .1 .0) (c .before .before .before .before .before .before .before .before .step-lent .last .1 .1 .0)) _ (c .before .before .before .before .before .before .before .before .step-lent .ensures (c .before .before .before .before .before .before .before .before .before .before .before .before .before .before .loop .inv .4)) (omega arith) (c .before .before .before .before .before .before .before .before .before .before .before .before .before .before .loop .inv .3) in
     both-of _ _ (c .ended .result) _ (rw (c .before .enum-told .given .1) at t) (c .ended .ensures)
 
 enum-told-2 : tie.Need-enum-told-2 Inv-loop μ-loop
@@ -79,7 +79,7 @@ same-length-2 c = search needs
 
 returns-2 : tie.Need-returns-2 Inv-loop μ-loop
 returns-2 c =
-    let t : _ = lent-turn-is (wholePlan (c .before .before .before .before .before .before .before .before .before .before .before .before .before .before .loop .rest) (c .before .before .before .before .before .before .before .before .before .before .before .before .before .before .loop .gpus) (c .before .before .before .before .before .before .before .before .before .before .before .before .before .before .loop .jobs) (c .before .before .before .before .before .before .before .before .before .before .before .before .before .before .loop .room)) (c .before .before .before .before .before .before .before .before .before .before .before .before .before .before .loop .steps) (c .before .before .before .before .before .before .before .before .before .before .before .before .before .before .loop .count) (c .before .before .before .before .before .before .before .before .before .before .before .before .before .before .loop .words) (c .before .before .before .before .before .before .before .before .step-lent .last .1 .1 .1 .1 .1 .0) (c .before .before .before .before .before .before .before .before .step-lent .result .answer) (wholePlan (c .before .before .before .before .before .before .before .before .step-lent .result .rest) (c .before .before .before .before .before .before .before .before .step-lent .last .0) (c .before .before .before .before .before .before .before .before .step-lent .last .1 .0) (c .before .before .before .before .before .before .before .before .step-lent .last .1 .1 .0)) _ (c .before .before .before .before .before .before .before .before .step-lent .ensures) (omega arith) (c .before .before .before .before .before .before .before .before .before .before .before .before .before .before .loop .inv .3) in
+    let t : _ = lent-turn-is (wholePlan (c .before .before .before .before .before .before .before .before .before .before .before .before .before .before .loop .rest) (c .before .before .before .before .before .before .before .before .before .before .before .before .before .before .loop .gpus) (c .before .before .before .before .before .before .before .before .before .before .before .before .before .before .loop .jobs) (c .before .before .before .before .before .before .before .before .before .before .before .before .before .before .loop .room)) (c .before .before .before .before .before .before .before .before .before .before .before .before .before .before .loop .steps) (c .before .before .before .before .before .before .before .before .before .before .before .before .before .before .loop .count) (c .before .before .before .before .before .before .before .before .before .before .before .before .before .before .loop .words) (c .before .before .before .before .before .before .before .before .step-lent .last .1 .1 .1 .1 .1 .0) (c .before .before .before .before .before .before .before .before .step-lent .result .answer) (wholePlan (c .before .before .before .before .before .before .before .before .step-lent .result .rest) (c .before .before .before .before .before .before .before .before .step-lent .last .0) (c .before .before .before .before .before .before .before .before .step-lent .last .1 .0) (c .before .before .before .before .before .before .before .before .step-lent .last .1 .1 .0)) _ (c .before .before .before .before .before .before .before .before .step-lent .ensures (c .before .before .before .before .before .before .before .before .before .before .before .before .before .before .loop .inv .4)) (omega arith) (c .before .before .before .before .before .before .before .before .before .before .before .before .before .before .loop .inv .3) in
     both-of _ _ (c .ended2 .result) _ (rw (c .before .enum-told2 .given .1) at t) (c .ended2 .ensures)
 
 enum-told-3 : tie.Need-enum-told-3 Inv-loop μ-loop
@@ -93,7 +93,7 @@ same-length-3 c = search needs
 
 returns-3 : tie.Need-returns-3 Inv-loop μ-loop
 returns-3 c =
-    let t : _ = lent-turn-is (wholePlan (c .before .before .before .before .before .before .before .before .before .before .before .before .before .before .loop .rest) (c .before .before .before .before .before .before .before .before .before .before .before .before .before .before .loop .gpus) (c .before .before .before .before .before .before .before .before .before .before .before .before .before .before .loop .jobs) (c .before .before .before .before .before .before .before .before .before .before .before .before .before .before .loop .room)) (c .before .before .before .before .before .before .before .before .before .before .before .before .before .before .loop .steps) (c .before .before .before .before .before .before .before .before .before .before .before .before .before .before .loop .count) (c .before .before .before .before .before .before .before .before .before .before .before .before .before .before .loop .words) (c .before .before .before .before .before .before .before .before .step-lent .last .1 .1 .1 .1 .1 .0) (c .before .before .before .before .before .before .before .before .step-lent .result .answer) (wholePlan (c .before .before .before .before .before .before .before .before .step-lent .result .rest) (c .before .before .before .before .before .before .before .before .step-lent .last .0) (c .before .before .before .before .before .before .before .before .step-lent .last .1 .0) (c .before .before .before .before .before .before .before .before .step-lent .last .1 .1 .0)) _ (c .before .before .before .before .before .before .before .before .step-lent .ensures) (omega arith) (c .before .before .before .before .before .before .before .before .before .before .before .before .before .before .loop .inv .3) in
+    let t : _ = lent-turn-is (wholePlan (c .before .before .before .before .before .before .before .before .before .before .before .before .before .before .loop .rest) (c .before .before .before .before .before .before .before .before .before .before .before .before .before .before .loop .gpus) (c .before .before .before .before .before .before .before .before .before .before .before .before .before .before .loop .jobs) (c .before .before .before .before .before .before .before .before .before .before .before .before .before .before .loop .room)) (c .before .before .before .before .before .before .before .before .before .before .before .before .before .before .loop .steps) (c .before .before .before .before .before .before .before .before .before .before .before .before .before .before .loop .count) (c .before .before .before .before .before .before .before .before .before .before .before .before .before .before .loop .words) (c .before .before .before .before .before .before .before .before .step-lent .last .1 .1 .1 .1 .1 .0) (c .before .before .before .before .before .before .before .before .step-lent .result .answer) (wholePlan (c .before .before .before .before .before .before .before .before .step-lent .result .rest) (c .before .before .before .before .before .before .before .before .step-lent .last .0) (c .before .before .before .before .before .before .before .before .step-lent .last .1 .0) (c .before .before .before .before .before .before .before .before .step-lent .last .1 .1 .0)) _ (c .before .before .before .before .before .before .before .before .step-lent .ensures (c .before .before .before .before .before .before .before .before .before .before .before .before .before .before .loop .inv .4)) (omega arith) (c .before .before .before .before .before .before .before .before .before .before .before .before .before .before .loop .inv .3) in
     both-of _ _ (c .ended3 .result) _ (rw (c .before .enum-told3 .given .1) at t) (c .ended3 .ensures)
 
 add-steps : tie.Need-add-steps Inv-loop μ-loop
@@ -105,8 +105,8 @@ loop-less c = search needs
 loop-again : tie.Need-loop-again Inv-loop μ-loop
 loop-again c =
     let l : _ = c .before .before .before .before .before .before .before .before .words .given in
-    let t : _ = lent-turn-on (wholePlan (c .before .before .before .before .before .before .before .before .before .before .before .before .before .before .before .loop .rest) (c .before .before .before .before .before .before .before .before .before .before .before .before .before .before .before .loop .gpus) (c .before .before .before .before .before .before .before .before .before .before .before .before .before .before .before .loop .jobs) (c .before .before .before .before .before .before .before .before .before .before .before .before .before .before .before .loop .room)) (c .before .before .before .before .before .before .before .before .before .before .before .before .before .before .before .loop .steps) (c .before .before .before .before .before .before .before .before .before .before .before .before .before .before .before .loop .count) (c .before .before .before .before .before .before .before .before .before .before .before .before .before .before .before .loop .words) (c .before .before .before .before .before .before .before .before .before .step-lent .last .1 .1 .1 .1 .1 .0) (c .before .before .before .before .before .before .before .before .before .step-lent .result .answer) (wholePlan (c .before .before .before .before .before .before .before .before .before .step-lent .result .rest) (c .before .before .before .before .before .before .before .before .before .step-lent .last .0) (c .before .before .before .before .before .before .before .before .before .step-lent .last .1 .0) (c .before .before .before .before .before .before .before .before .before .step-lent .last .1 .1 .0)) _ (c .before .before .before .before .before .before .before .before .before .step-lent .ensures) (omega arith) (c .before .before .before .before .before .before .before .before .before .before .before .before .before .before .before .loop .inv .3) _ (c .lesser .result) (c .before .before .answer .given .1) (c .lesser .ensures) (l .1) (omega arith) in
-    (omega arith, t .0, l .1 ∙ c .before .before .before .before .before .before .before .before .before .before .before .before .before .before .before .loop .inv .2, t .1, next-top (wholePlan (c .before .before .before .before .before .before .before .before .before .before .before .before .before .before .before .loop .rest) (c .before .before .before .before .before .before .before .before .before .before .before .before .before .before .before .loop .gpus) (c .before .before .before .before .before .before .before .before .before .before .before .before .before .before .before .loop .jobs) (c .before .before .before .before .before .before .before .before .before .before .before .before .before .before .before .loop .room)) (wholePlan (c .before .before .before .before .before .before .before .before .before .step-lent .result .rest) (c .before .before .before .before .before .before .before .before .before .step-lent .last .0) (c .before .before .before .before .before .before .before .before .before .step-lent .last .1 .0) (c .before .before .before .before .before .before .before .before .before .step-lent .last .1 .1 .0)) _ (c .before .before .before .before .before .before .before .before .before .before .before .before .before .before .before .loop .top) (c .before .before .before .before .next-top .result) (c .before .before .before .before .before .before .before .before .before .before .before .before .before .before .before .loop .inv .4) (c .before .before .before .before .before .before .before .before .before .step-lent .ensures .1 .0) (c .before .before .before .before .next-top .ensures))
+    let t : _ = lent-turn-on (wholePlan (c .before .before .before .before .before .before .before .before .before .before .before .before .before .before .before .loop .rest) (c .before .before .before .before .before .before .before .before .before .before .before .before .before .before .before .loop .gpus) (c .before .before .before .before .before .before .before .before .before .before .before .before .before .before .before .loop .jobs) (c .before .before .before .before .before .before .before .before .before .before .before .before .before .before .before .loop .room)) (c .before .before .before .before .before .before .before .before .before .before .before .before .before .before .before .loop .steps) (c .before .before .before .before .before .before .before .before .before .before .before .before .before .before .before .loop .count) (c .before .before .before .before .before .before .before .before .before .before .before .before .before .before .before .loop .words) (c .before .before .before .before .before .before .before .before .before .step-lent .last .1 .1 .1 .1 .1 .0) (c .before .before .before .before .before .before .before .before .before .step-lent .result .answer) (wholePlan (c .before .before .before .before .before .before .before .before .before .step-lent .result .rest) (c .before .before .before .before .before .before .before .before .before .step-lent .last .0) (c .before .before .before .before .before .before .before .before .before .step-lent .last .1 .0) (c .before .before .before .before .before .before .before .before .before .step-lent .last .1 .1 .0)) _ (c .before .before .before .before .before .before .before .before .before .step-lent .ensures (c .before .before .before .before .before .before .before .before .before .before .before .before .before .before .before .loop .inv .4)) (omega arith) (c .before .before .before .before .before .before .before .before .before .before .before .before .before .before .before .loop .inv .3) _ (c .lesser .result) (c .before .before .answer .given .1) (c .lesser .ensures) (l .1) (omega arith) in
+    (omega arith, t .0, l .1 ∙ c .before .before .before .before .before .before .before .before .before .before .before .before .before .before .before .loop .inv .2, t .1, next-top (wholePlan (c .before .before .before .before .before .before .before .before .before .before .before .before .before .before .before .loop .rest) (c .before .before .before .before .before .before .before .before .before .before .before .before .before .before .before .loop .gpus) (c .before .before .before .before .before .before .before .before .before .before .before .before .before .before .before .loop .jobs) (c .before .before .before .before .before .before .before .before .before .before .before .before .before .before .before .loop .room)) (wholePlan (c .before .before .before .before .before .before .before .before .before .step-lent .result .rest) (c .before .before .before .before .before .before .before .before .before .step-lent .last .0) (c .before .before .before .before .before .before .before .before .before .step-lent .last .1 .0) (c .before .before .before .before .before .before .before .before .before .step-lent .last .1 .1 .0)) _ (c .before .before .before .before .before .before .before .before .before .before .before .before .before .before .before .loop .top) (c .before .before .before .before .next-top .result) (c .before .before .before .before .before .before .before .before .before .before .before .before .before .before .before .loop .inv .4) (c .before .before .before .before .before .before .before .before .before .step-lent .ensures (c .before .before .before .before .before .before .before .before .before .before .before .before .before .before .before .loop .inv .4) .1 .0) (c .before .before .before .before .next-top .ensures))
 
 ended-requires-4 : tie.Need-ended-requires-4 Inv-loop μ-loop
 ended-requires-4 c κs = search needs

@@ -3,7 +3,7 @@ use borrow.Author.Needs.{needs}
 use mathlib.Core.Path.{sym, _∙_}
 use native.Mathlib.Omega.{arith}
 use Rattle.happen.specs.Happen.{wholePlan, wholeMoment}
-use Rattle.engine.specs.Advance.{advanced-found, has-found}
+use Rattle.engine.specs.Advance.{found-under, advanced-found, has-found}
 use Rattle.planner.specs.Lent.{left-short, left-none, left-barred, left-taken}
 use Rattle.planner.proofs.lent.step_lent.Statement.{statement}
 use Rattle.planner.proofs.lent.step_lent.Tie as tie
@@ -12,7 +12,7 @@ leave-requires : tie.Need-leave-requires
 leave-requires c κs = search needs
 
 returns : tie.Need-returns
-returns c =
+returns c = λ free.
     let a = c .before .before .before .args in
     let p = wholePlan (a .rest) (a .gpus .now) (a .jobs .now) (a .room .now) in
     rw (c .leave .ensures) (left-short p (a .decisions .now) (omega arith))
@@ -36,37 +36,40 @@ same-length : tie.Need-same-length
 same-length c = search needs
 
 returns-2 : tie.Need-returns-2
-returns-2 c =
+returns-2 c = λ free.
     let a = c .before .before .before .before .before .before .before .before .before .before .before .before .before .before .before .before .before .before .before .before .args in
     let p = wholePlan (a .rest) (a .gpus .now) (a .jobs .now) (a .room .now) in
     let f = c .before .before .before .before .before .before .before .before .before .before .before .before .before .before .before .before .next-event in
+    let least = f .ensures ∙ found-under (a .top) (p .events) free in
     let m = c .before .before .before .before .before .before .before .before .before .advance in
-    let h = sym (has-found p (f .result) (f .ensures)) ∙ sym (c .before .before .before .before .before .before .before .before .before .before .before .before .before .before .is-used .ensures) ∙ c .before .before .before .before .before .before .before .before .before .before .before .before .before .if2 .taken in
+    let h = sym (has-found p (f .result) least) ∙ sym (c .before .before .before .before .before .before .before .before .before .before .before .before .before .before .is-used .ensures) ∙ c .before .before .before .before .before .before .before .before .before .before .before .before .before .if2 .taken in
     rw (c .leave2 .ensures)
-    (left-taken p (a .decisions .now) (omega (arith, c .before .before .before .before .before .before .before .before .before .before .before .before .before .before .before .before .before .before .if1 .left)) h (wholeMoment (m .result) (m .last .0) (m .last .1 .0) (m .last .1 .1 .0)) (m .ensures ∙ advanced-found p (f .result) (f .ensures)) _ (c .before .before .before .before .before .before .before .if3 .taken) (c .before .before .before .write-words .ensures))
+    (left-taken p (a .decisions .now) (omega (arith, c .before .before .before .before .before .before .before .before .before .before .before .before .before .before .before .before .before .before .if1 .left)) h (wholeMoment (m .result) (m .last .0) (m .last .1 .0) (m .last .1 .1 .0)) (m .ensures ∙ advanced-found p (f .result) least) _ (c .before .before .before .before .before .before .before .if3 .taken) (c .before .before .before .write-words .ensures))
 
 leave-requires-3 : tie.Need-leave-requires-3
 leave-requires-3 c κs = search needs
 
 returns-3 : tie.Need-returns-3
-returns-3 c =
+returns-3 c = λ free.
     let a = c .before .before .before .before .before .before .before .before .before .before .before .before .before .before .args in
     let p = wholePlan (a .rest) (a .gpus .now) (a .jobs .now) (a .room .now) in
     let f = c .before .before .before .before .before .before .before .before .before .before .next-event in
+    let least = f .ensures ∙ found-under (a .top) (p .events) free in
     let m = c .before .before .before .advance in
-    let h = sym (has-found p (f .result) (f .ensures)) ∙ sym (c .before .before .before .before .before .before .before .before .is-used .ensures) ∙ c .before .before .before .before .before .before .before .if2 .taken in
+    let h = sym (has-found p (f .result) least) ∙ sym (c .before .before .before .before .before .before .before .before .is-used .ensures) ∙ c .before .before .before .before .before .before .before .if2 .taken in
     rw (c .leave3 .ensures)
-    (left-barred p (a .decisions .now) (omega (arith, c .before .before .before .before .before .before .before .before .before .before .before .before .if1 .left)) h (wholeMoment (m .result) (m .last .0) (m .last .1 .0) (m .last .1 .1 .0)) (m .ensures ∙ advanced-found p (f .result) (f .ensures)) (c .before .if3 .left))
+    (left-barred p (a .decisions .now) (omega (arith, c .before .before .before .before .before .before .before .before .before .before .before .before .if1 .left)) h (wholeMoment (m .result) (m .last .0) (m .last .1 .0) (m .last .1 .1 .0)) (m .ensures ∙ advanced-found p (f .result) least) (c .before .if3 .left))
 
 leave-requires-4 : tie.Need-leave-requires-4
 leave-requires-4 c κs = search needs
 
 returns-4 : tie.Need-returns-4
-returns-4 c =
+returns-4 c = λ free.
     let a = c .before .before .before .before .before .before .before .before .args in
     let p = wholePlan (a .rest) (a .gpus .now) (a .jobs .now) (a .room .now) in
     let f = c .before .before .before .before .next-event in
-    rw (c .leave4 .ensures) (left-none p (a .decisions .now) (omega arith) (sym (has-found p (f .result) (f .ensures)) ∙ sym (c .before .before .is-used .ensures) ∙ c .before .if2 .left))
+    let least = f .ensures ∙ found-under (a .top) (p .events) free in
+    rw (c .leave4 .ensures) (left-none p (a .decisions .now) (omega arith) (sym (has-found p (f .result) least) ∙ sym (c .before .before .is-used .ensures) ∙ c .before .if2 .left))
 
 pub step-lent-spec : {M : Type 1} → statement M
 step-lent-spec =
