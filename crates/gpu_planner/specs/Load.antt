@@ -20,6 +20,7 @@ use Rattle.trace.specs.Answer.{accepted}
 use Rattle.trace.specs.declared.answer.Answer.{Answer}
 use Rattle.loader.specs.Arrivals.{arrivalsFrom, arrivals, arrivalsOver}
 use Rattle.loader.specs.ArrivalLaws.{over-zeros}
+use Rattle.loader.specs.Tables.{settingOf}
 use Rattle.loader.specs.Load.{planOf, wholeTurn, finished, refused, load}
 use Rattle.loader.specs.declared.load.Loaded.{Loaded}
 use Rattle.loader.specs.declared.load.Going.{Going}
@@ -41,33 +42,33 @@ first-room events jobs n m places (p, full) k e =
     let t : take m jobs ≡ take n jobs = rw (k, p) (take-least n Sizes.jobs jobs full) in
     e ∙ ap (λ (js : List Job). sets (eventsOf (replicate Sizes.events (replicate 5 0))) 0 (arrivalsFrom 0 js)) t ∙ over-zeros jobs n full
 
-module _ (u : Going) (gpus jobs : List (List ℕ)) (l : Loaded) (is : finished (wholeTurn u gpus jobs) ≡ l) where
+module _ (u : Going) (sites quotas mosts : List ℕ) (gpus jobs : List (List ℕ)) (l : Loaded) (is : finished (wholeTurn u sites quotas mosts gpus jobs) ≡ l) where
   -- the answer is that of the load
   pub same-answer : u .answer ≡ l .answer
   unfolding finished refused
   same-answer = split (accepted (u .answer)) (λ e. ap (λ (x : Loaded). x .answer) (rw e at is)) (λ e. ap (λ (x : Loaded). x .answer) (rw e at is))
 
   -- accepted, the tables hold its plan
-  pub same-plan : (room : List (List ℕ)) → accepted (u .answer) ≡ true → eventsOf room ≡ arrivals (jobsOf jobs) (u .loading .setting .jobs) → wholePlan (firstRest (u .loading .setting)) gpus jobs room ≡ l .plan
+  pub same-plan : (room : List (List ℕ)) → accepted (u .answer) ≡ true → eventsOf room ≡ arrivals (jobsOf jobs) (u .loading .jobs) → wholePlan (firstRest (settingOf (u .loading) sites quotas mosts)) gpus jobs room ≡ l .plan
   unfolding finished planOf
-  same-plan room a e = let p : planOf (wholeTurn u gpus jobs .tables) ≡ l .plan = ap (λ (x : Loaded). x .plan) (rw a at is) in rw e p
+  same-plan room a e = let p : planOf (wholeTurn u sites quotas mosts gpus jobs .tables) ≡ l .plan = ap (λ (x : Loaded). x .plan) (rw a at is) in rw e p
 
 -- ---- one case for each return of the code: the head and the words of the trace's run
 
-module _ (trace ws : List ℕ) (u : Going) (gpus jobs : List (List ℕ)) (is : finished (wholeTurn u gpus jobs) ≡ load trace) (h : Head) where
+module _ (trace ws : List ℕ) (u : Going) (sites quotas mosts : List ℕ) (gpus jobs : List (List ℕ)) (is : finished (wholeTurn u sites quotas mosts gpus jobs) ≡ load trace) (h : Head) where
   pub ran-lent :
       (room : List (List ℕ)) (r : Rest) (out : List ℕ) → accepted (u .answer) ≡ true →
-      eventsOf room ≡ arrivals (jobsOf jobs) (u .loading .setting .jobs) →
-      r ≡ firstRest (u .loading .setting) →
+      eventsOf room ≡ arrivals (jobsOf jobs) (u .loading .jobs) →
+      r ≡ firstRest (settingOf (u .loading) sites quotas mosts) →
       h ≡ runTo turns (wholePlan r gpus jobs room) 0 0 ws .head →
       out ≡ runTo turns (wholePlan r gpus jobs room) 0 0 ws .words →
       (h ≡ ran trace ws .head) × (out ≡ ran trace ws .words)
   ran-lent room r out a e f k o =
-      let p : wholePlan r gpus jobs room ≡ load trace .plan = ap (λ (x : Rest). wholePlan x gpus jobs room) f ∙ same-plan u gpus jobs (load trace) is room a e in
-      let b : accepted (load trace .answer) ≡ true = sym (ap (λ (x : Answer). accepted x) (same-answer u gpus jobs (load trace) is)) ∙ a in
+      let p : wholePlan r gpus jobs room ≡ load trace .plan = ap (λ (x : Rest). wholePlan x gpus jobs room) f ∙ same-plan u sites quotas mosts gpus jobs (load trace) is room a e in
+      let b : accepted (load trace .answer) ≡ true = sym (ap (λ (x : Answer). accepted x) (same-answer u sites quotas mosts gpus jobs (load trace) is)) ∙ a in
       ran-loaded trace ws (load trace) refl b h out (k ∙ ap (λ (x : Plan). runTo turns x 0 0 ws .head) p) (o ∙ ap (λ (x : Plan). runTo turns x 0 0 ws .words) p)
 
   pub refused-lent : accepted (u .answer) ≡ false → h ≡ refusedHead (u .answer) → (h ≡ ran trace ws .head) × (ws ≡ ran trace ws .words)
   refused-lent a k =
-      let s : u .answer ≡ load trace .answer = same-answer u gpus jobs (load trace) is in
+      let s : u .answer ≡ load trace .answer = same-answer u sites quotas mosts gpus jobs (load trace) is in
       ran-refused trace ws (load trace) refl (sym (ap (λ (x : Answer). accepted x) s) ∙ a) h (k ∙ ap refusedHead s)

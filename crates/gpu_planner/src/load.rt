@@ -6,10 +6,14 @@ use crate::run::run;
 use happen::Rest;
 use loader::arrivals::write_arrivals;
 use loader::load::load_tables;
+use loader::tables::setting_of;
 use model::setting::Setting;
 use model::sizes::EVENTS;
 use model::sizes::GPUS;
 use model::sizes::JOBS;
+use model::sizes::NODES;
+use model::sizes::PROFILES;
+use model::sizes::TENANTS;
 use model::totals::no_totals;
 use rows::event::ENTRY;
 use rows::gpu::CARD;
@@ -43,14 +47,24 @@ pub fn load_and_run(trace: &[u8], words: &mut [u64]) -> Head
     ensures { λ r. ⌜ r ≡ ran (now (trace .entry)) (now (words .entry)) .head ⌝ }
     ensures { λ _. ⌜ now (words .exit) ≡ ran (now (trace .entry)) (now (words .entry)) .words ⌝ }
 {
+    let mut sites = [0u8; NODES];
+    let mut quotas = [0u64; TENANTS];
+    let mut mosts = [0u8; PROFILES];
     let mut gpus = [[0u64; CARD]; GPUS];
     let mut jobs = [[0u64; ROW]; JOBS];
     let mut room = [[0u64; ENTRY]; EVENTS];
-    let loaded = load_tables(trace, &mut gpus, &mut jobs);
+    let loaded = load_tables(
+        trace,
+        &mut sites,
+        &mut quotas,
+        &mut mosts,
+        &mut gpus,
+        &mut jobs,
+    );
     let answer = loaded.answer;
     if is_accepted(answer) {
         let loading = loaded.loading;
-        let setting = loading.setting;
+        let setting = setting_of(loading, &sites, &quotas, &mosts);
         let n = lesser(setting.jobs as usize, job_places(&jobs));
         write_arrivals(&mut room, &jobs, n);
         return run(

@@ -45,8 +45,8 @@ abbrev pub turnOn : ℕ → Tables → Turn
 turnOn at tables = record { over = false; answer = Accepted; at = at; tables = tables }
 
 -- a turn, with the tables that were lent
-abbrev pub wholeTurn : Going → List (List ℕ) → List (List ℕ) → Turn
-wholeTurn u gpus jobs = record { over = u .over; answer = u .answer; at = u .at; tables = wholeTables (u .loading) gpus jobs }
+abbrev pub wholeTurn : Going → List ℕ → List ℕ → List ℕ → List (List ℕ) → List (List ℕ) → Turn
+wholeTurn u sites quotas mosts gpus jobs = record { over = u .over; answer = u .answer; at = u .at; tables = wholeTables (u .loading) sites quotas mosts gpus jobs }
 
 abbrev pub goingOver : Answer → Loading → Going
 goingOver answer t = record { over = true; answer = answer; at = 0; loading = t }

@@ -66,12 +66,18 @@ pub turns-end : (trace : List ℕ) (n i at : ℕ) (t : Tables) → n ≤ i → t
 unfolding turns
 turns-end trace n i at t h = let e : n - i ≡ 0 = omega arith in rw e
 
--- tables of zeros hold nothing
-pub zeros-tables : wholeTables noLoading (replicate Sizes.gpus (replicate 10 0)) (replicate Sizes.jobs (replicate 22 0)) ≡ emptyTables
+-- ---- tables of zeros
+
+-- what is loaded, into tables of zeros
+abbrev pub zeroTables : Tables
+zeroTables = wholeTables noLoading (replicate Sizes.nodes 0) (replicate Sizes.tenants 0) (replicate Sizes.profiles 0) (replicate Sizes.gpus (replicate 10 0)) (replicate Sizes.jobs (replicate 22 0))
+
+-- they hold nothing
+pub zeros-tables : zeroTables ≡ emptyTables
 unfolding noLoading emptyTables
 zeros-tables = rw (same-rows gpuOf Sizes.gpus (replicate 10 0) noGpu zeros-gpu, same-rows jobOf Sizes.jobs (replicate 22 0) noJob zeros-job)
 
 -- a load is one into them
-pub load-zeros : (trace : List ℕ) → loadInto trace (wholeTables noLoading (replicate Sizes.gpus (replicate 10 0)) (replicate Sizes.jobs (replicate 22 0))) ≡ load trace
+pub load-zeros : (trace : List ℕ) → loadInto trace zeroTables ≡ load trace
 unfolding loadInto load
 load-zeros trace = rw zeros-tables

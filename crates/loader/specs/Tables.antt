@@ -6,7 +6,7 @@ use lib.ListN.{set, replicate}
 use Rattle.model.specs.Sizes as Sizes
 use Rattle.model.specs.Gpu.{noGpu}
 use Rattle.model.specs.Job.{newJob, noJob}
-use Rattle.model.specs.Setting.{emptySetting}
+use Rattle.model.specs.Setting.{defaultOptions, emptySetting}
 use Rattle.model.specs.declared.gpu.Gpu.{Gpu}
 use Rattle.model.specs.declared.job.Ask.{Ask}
 use Rattle.model.specs.declared.setting.Setting.{Setting}
@@ -19,15 +19,16 @@ use Rattle.rows.specs.Job.{jobsOf}
 use Rattle.loader.specs.declared.tables.Tables.{Tables}
 use Rattle.loader.specs.declared.tables.Loading.{Loading}
 
--- the tables, with those that were lent
-abbrev pub wholeTables : Loading → List (List ℕ) → List (List ℕ) → Tables
-wholeTables t gpus jobs = record { setting = t .setting; gpus = gpusOf gpus; jobs = jobsOf jobs; told = t .told }
+-- the settings, with their tables, which were lent
+abbrev pub settingOf : Loading → List ℕ → List ℕ → List ℕ → Setting
+settingOf t sites quotas mosts = record { sites = sites; nodes = t .nodes; gpus = t .gpus; jobs = t .jobs; quotas = quotas; mosts = mosts; options = t .options }
 
-abbrev pub settingLoading : Loading → Setting → Loading
-settingLoading t s = record { setting = s; told = t .told }
+-- the tables, with those that were lent
+abbrev pub wholeTables : Loading → List ℕ → List ℕ → List ℕ → List (List ℕ) → List (List ℕ) → Tables
+wholeTables t sites quotas mosts gpus jobs = record { setting = settingOf t sites quotas mosts; gpus = gpusOf gpus; jobs = jobsOf jobs; told = t .told }
 
 unfoldable pub noLoading : Loading
-noLoading = record { setting = emptySetting; told = false }
+noLoading = record { options = defaultOptions; told = false; nodes = 0; gpus = 0; jobs = 0 }
 
 -- nothing is loaded yet
 unfoldable pub emptyTables : Tables
@@ -74,15 +75,18 @@ putAsk t ask = record { setting = oneJob (t .setting); gpus = t .gpus; jobs = se
 unfoldable pub putOptions : Tables → Options → Tables
 putOptions t o = record { setting = withOptions (t .setting) o; gpus = t .gpus; jobs = t .jobs; told = true }
 
--- what a GPU, a job and the options change beside the tables
+-- what a node, a GPU, a job and the options change beside the tables
+abbrev pub nodeLoading : Loading → Loading
+nodeLoading t = record { options = t .options; told = t .told; nodes = t .nodes + 1; gpus = t .gpus; jobs = t .jobs }
+
 abbrev pub cardLoading : Loading → Loading
-cardLoading t = record { setting = oneGpu (t .setting); told = t .told }
+cardLoading t = record { options = t .options; told = t .told; nodes = t .nodes; gpus = t .gpus + 1; jobs = t .jobs }
 
 abbrev pub askLoading : Loading → Loading
-askLoading t = record { setting = oneJob (t .setting); told = t .told }
+askLoading t = record { options = t .options; told = t .told; nodes = t .nodes; gpus = t .gpus; jobs = t .jobs + 1 }
 
 abbrev pub optionsLoading : Loading → Options → Loading
-optionsLoading t o = record { setting = withOptions (t .setting) o; told = true }
+optionsLoading t o = record { options = o; told = true; nodes = t .nodes; gpus = t .gpus; jobs = t .jobs }
 
 -- The tables after one more record.
 abbrev pub putRecord : Tables → Record → Tables

@@ -6,11 +6,15 @@ use crate::tables::Loading;
 use crate::tables::Tables;
 use crate::tables::no_loading;
 use crate::tables::put_record;
+use crate::tables::setting_of;
 use model::plan::Plan;
 use model::plan::empty_plan;
 use model::sizes::EVENTS;
 use model::sizes::GPUS;
 use model::sizes::JOBS;
+use model::sizes::NODES;
+use model::sizes::PROFILES;
+use model::sizes::TENANTS;
 use model::sizes::TRACE_BYTES;
 use model::totals::no_totals;
 use rows::event::ENTRY;
@@ -90,6 +94,9 @@ fn turn_on(at: usize, t: Loading) -> Going
 
 // A whole record that begins at a place and ends at another, in a trace of so many bytes.
 fn follow(
+    sites: &mut [u8; NODES],
+    quotas: &mut [u64; TENANTS],
+    mosts: &mut [u8; PROFILES],
     gpus: &mut [[u64; CARD]; GPUS],
     jobs: &mut [[u64; ROW]; JOBS],
     length: usize,
@@ -98,7 +105,7 @@ fn follow(
     r: Record,
     t: Loading,
 ) -> Going
-    ensures { λ u. ⌜ wholeTurn u (now (gpus .exit)) (now (jobs .exit)) ≡ follow length at end r (wholeTables t (now (gpus .entry)) (now (jobs .entry))) ⌝ }
+    ensures { λ u. ⌜ wholeTurn u (now (sites .exit)) (now (quotas .exit)) (now (mosts .exit)) (now (gpus .exit)) (now (jobs .exit)) ≡ follow length at end r (wholeTables t (now (sites .entry)) (now (quotas .entry)) (now (mosts .entry)) (now (gpus .entry)) (now (jobs .entry))) ⌝ }
 {
     if is_end(r) {
         if end == length {
@@ -106,43 +113,64 @@ fn follow(
         }
         return turn_over(Answer::AfterEnd(end), t);
     }
-    let setting = t.setting;
-    let fault = fault_of(setting, t.told, at, r);
+    let fault = fault_of(quotas, mosts, t, at, r);
     if is_accepted(fault) {
-        return turn_on(end, put_record(gpus, jobs, t, r, at));
+        let after = put_record(sites, quotas, mosts, gpus, jobs, t, r, at);
+        return turn_on(end, after);
     }
     turn_over(fault, t)
 }
 
 fn take_turn(
     trace: &[u8],
+    sites: &mut [u8; NODES],
+    quotas: &mut [u64; TENANTS],
+    mosts: &mut [u8; PROFILES],
     gpus: &mut [[u64; CARD]; GPUS],
     jobs: &mut [[u64; ROW]; JOBS],
     at: usize,
     t: Loading,
 ) -> Going
     requires { ⌜ at ≤ length (now trace) ⌝ }
-    ensures { λ u. ⌜ wholeTurn u (now (gpus .exit)) (now (jobs .exit)) ≡ turn (now (trace .entry)) at (wholeTables t (now (gpus .entry)) (now (jobs .entry))) ⌝ }
+    ensures { λ u. ⌜ wholeTurn u (now (sites .exit)) (now (quotas .exit)) (now (mosts .exit)) (now (gpus .exit)) (now (jobs .exit)) ≡ turn (now (trace .entry)) at (wholeTables t (now (sites .entry)) (now (quotas .entry)) (now (mosts .entry)) (now (gpus .entry)) (now (jobs .entry))) ⌝ }
 {
     let read = read_record(&trace[at..]);
     let answer = read.answer;
     let found = read.found;
     if is_accepted(answer) {
-        return follow(gpus, jobs, trace.len(), at, at + read.used, found, t);
+        return follow(
+            sites,
+            quotas,
+            mosts,
+            gpus,
+            jobs,
+            trace.len(),
+            at,
+            at + read.used,
+            found,
+            t,
+        );
     }
     turn_over(shift(at, answer), t)
 }
 
 // All records, until the end record or the first refusal.
-fn take_turns(trace: &[u8], gpus: &mut [[u64; CARD]; GPUS], jobs: &mut [[u64; ROW]; JOBS]) -> Going
-    ensures { λ r. ⌜ finished (wholeTurn r (now (gpus .exit)) (now (jobs .exit))) ≡ turns (length (now (trace .entry))) (now (trace .entry)) 0 (wholeTables noLoading (now (gpus .entry)) (now (jobs .entry))) ⌝ }
+fn take_turns(
+    trace: &[u8],
+    sites: &mut [u8; NODES],
+    quotas: &mut [u64; TENANTS],
+    mosts: &mut [u8; PROFILES],
+    gpus: &mut [[u64; CARD]; GPUS],
+    jobs: &mut [[u64; ROW]; JOBS],
+) -> Going
+    ensures { λ r. ⌜ finished (wholeTurn r (now (sites .exit)) (now (quotas .exit)) (now (mosts .exit)) (now (gpus .exit)) (now (jobs .exit))) ≡ turns (length (now (trace .entry))) (now (trace .entry)) 0 (wholeTables noLoading (now (sites .entry)) (now (quotas .entry)) (now (mosts .entry)) (now (gpus .entry)) (now (jobs .entry))) ⌝ }
 {
     let n = trace.len();
     let mut t = no_loading();
     let mut at: usize = 0;
     let mut i: usize = 0;
     while i < n {
-        let u = take_turn(trace, gpus, jobs, at, t);
+        let u = take_turn(trace, sites, quotas, mosts, gpus, jobs, at, t);
         if u.over {
             return u;
         }
@@ -156,21 +184,31 @@ fn take_turns(trace: &[u8], gpus: &mut [[u64; CARD]; GPUS], jobs: &mut [[u64; RO
 // Loads a trace into lent tables, which hold nothing yet.
 pub fn load_tables(
     trace: &[u8],
+    sites: &mut [u8; NODES],
+    quotas: &mut [u64; TENANTS],
+    mosts: &mut [u8; PROFILES],
     gpus: &mut [[u64; CARD]; GPUS],
     jobs: &mut [[u64; ROW]; JOBS],
 ) -> Going
-    ensures { λ r. ⌜ finished (wholeTurn r (now (gpus .exit)) (now (jobs .exit))) ≡ loadInto (now (trace .entry)) (wholeTables noLoading (now (gpus .entry)) (now (jobs .entry))) ⌝ }
+    ensures { λ r. ⌜ finished (wholeTurn r (now (sites .exit)) (now (quotas .exit)) (now (mosts .exit)) (now (gpus .exit)) (now (jobs .exit))) ≡ loadInto (now (trace .entry)) (wholeTables noLoading (now (sites .entry)) (now (quotas .entry)) (now (mosts .entry)) (now (gpus .entry)) (now (jobs .entry))) ⌝ }
 {
     if TRACE_BYTES < trace.len() {
         return turn_over(Answer::TooLong(TRACE_BYTES), no_loading());
     }
-    take_turns(trace, gpus, jobs)
+    take_turns(trace, sites, quotas, mosts, gpus, jobs)
 }
 
-fn plan_of(t: Loading, gpus: &[[u64; CARD]; GPUS], jobs: &[[u64; ROW]; JOBS]) -> Plan
-    ensures { λ r. ⌜ r ≡ planOf (wholeTables t (now (gpus .entry)) (now (jobs .entry))) ⌝ }
+fn plan_of(
+    t: Loading,
+    sites: &[u8; NODES],
+    quotas: &[u64; TENANTS],
+    mosts: &[u8; PROFILES],
+    gpus: &[[u64; CARD]; GPUS],
+    jobs: &[[u64; ROW]; JOBS],
+) -> Plan
+    ensures { λ r. ⌜ r ≡ planOf (wholeTables t (now (sites .entry)) (now (quotas .entry)) (now (mosts .entry)) (now (gpus .entry)) (now (jobs .entry))) ⌝ }
 {
-    let setting = t.setting;
+    let setting = setting_of(t, sites, quotas, mosts);
     let mut room = [[0u64; ENTRY]; EVENTS];
     write_arrivals(&mut room, jobs, setting.jobs as usize);
     Plan {
@@ -195,8 +233,15 @@ fn refused(answer: Answer) -> Loaded
     }
 }
 
-fn finished(t: Going, gpus: &[[u64; CARD]; GPUS], jobs: &[[u64; ROW]; JOBS]) -> Loaded
-    ensures { λ r. ⌜ r ≡ finished (wholeTurn t (now (gpus .entry)) (now (jobs .entry))) ⌝ }
+fn finished(
+    t: Going,
+    sites: &[u8; NODES],
+    quotas: &[u64; TENANTS],
+    mosts: &[u8; PROFILES],
+    gpus: &[[u64; CARD]; GPUS],
+    jobs: &[[u64; ROW]; JOBS],
+) -> Loaded
+    ensures { λ r. ⌜ r ≡ finished (wholeTurn t (now (sites .entry)) (now (quotas .entry)) (now (mosts .entry)) (now (gpus .entry)) (now (jobs .entry))) ⌝ }
 {
     let answer = t.answer;
     let loading = t.loading;
@@ -204,7 +249,7 @@ fn finished(t: Going, gpus: &[[u64; CARD]; GPUS], jobs: &[[u64; ROW]; JOBS]) -> 
     if accepted {
         return Loaded {
             answer: answer,
-            plan: plan_of(loading, gpus, jobs),
+            plan: plan_of(loading, sites, quotas, mosts, gpus, jobs),
         };
     }
     refused(answer)
@@ -213,8 +258,18 @@ fn finished(t: Going, gpus: &[[u64; CARD]; GPUS], jobs: &[[u64; ROW]; JOBS]) -> 
 pub fn load(trace: &[u8]) -> Loaded
     ensures { λ r. ⌜ r ≡ load (now (trace .entry)) ⌝ }
 {
+    let mut sites = [0u8; NODES];
+    let mut quotas = [0u64; TENANTS];
+    let mut mosts = [0u8; PROFILES];
     let mut gpus = [[0u64; CARD]; GPUS];
     let mut jobs = [[0u64; ROW]; JOBS];
-    let t = load_tables(trace, &mut gpus, &mut jobs);
-    finished(t, &gpus, &jobs)
+    let t = load_tables(
+        trace,
+        &mut sites,
+        &mut quotas,
+        &mut mosts,
+        &mut gpus,
+        &mut jobs,
+    );
+    finished(t, &sites, &quotas, &mosts, &gpus, &jobs)
 }

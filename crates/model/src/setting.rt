@@ -4,7 +4,7 @@ use crate::sizes::NODES;
 use crate::sizes::PROFILES;
 use crate::sizes::TENANTS;
 ghost use mathlib.Core.Path.{_≡_};
-ghost use lib.ListN.{getD, set};
+ghost use lib.ListN.{getD};
 ghost use Rattle.model.specs.Setting.{defaultOptions, emptySetting};
 
 // seconds: what a reconfiguration adds to a start; penalty: what a restart adds; multiplier: what a penalised job's remaining is multiplied by.
@@ -65,16 +65,6 @@ pub fn site_at(sites: [u8; NODES], i: usize) -> u8
     0
 }
 
-pub fn put_site(sites: [u8; NODES], i: usize, x: u8) -> [u8; NODES]
-    ensures { λ r. ⌜ r ≡ set sites i x ⌝ }
-{
-    let mut table = sites;
-    if i < NODES {
-        table[i] = x;
-    }
-    table
-}
-
 pub fn quota_at(quotas: [u64; TENANTS], i: usize) -> u64
     ensures { λ r. ⌜ r ≡ getD quotas i 0 ⌝ }
 {
@@ -84,16 +74,6 @@ pub fn quota_at(quotas: [u64; TENANTS], i: usize) -> u64
     0
 }
 
-pub fn put_quota(quotas: [u64; TENANTS], i: usize, x: u64) -> [u64; TENANTS]
-    ensures { λ r. ⌜ r ≡ set quotas i x ⌝ }
-{
-    let mut table = quotas;
-    if i < TENANTS {
-        table[i] = x;
-    }
-    table
-}
-
 pub fn most_at(mosts: [u8; PROFILES], i: usize) -> u8
     ensures { λ r. ⌜ r ≡ getD mosts i 0 ⌝ }
 {
@@ -101,14 +81,4 @@ pub fn most_at(mosts: [u8; PROFILES], i: usize) -> u8
         return mosts[i];
     }
     0
-}
-
-pub fn put_most(mosts: [u8; PROFILES], i: usize, x: u8) -> [u8; PROFILES]
-    ensures { λ r. ⌜ r ≡ set mosts i x ⌝ }
-{
-    let mut table = mosts;
-    if i < PROFILES {
-        table[i] = x;
-    }
-    table
 }

@@ -1,19 +1,21 @@
--- Laws of fields: what is read lies in its range.
+-- Laws of fields: what is read lies in its range; what a field in numbers alone stands for.
 use mathlib.Core.List.{List}
-use mathlib.Core.Path.{_≡_}
+use mathlib.Core.Path.{_≡_, refl, sym, subst}
+use mathlib.Core.Bool.{Bool, true, false}
 use Prim.Native.Nat.{ℕ, _+_, _≤_, _<_}
 use native.Mathlib.Omega.{arith}
-use lib.Dec.{ltb}
+use lib.Dec.{ltb, eqb}
 use lib.ListN.{length, drop}
-use borrow.Author.Tests.{ltb-false}
+use borrow.Author.Tests.{ltb-false, ne-eqb}
 use Rattle.laws.specs.Choice.{pick, pick-either, pick-cases}
 use Rattle.trace.specs.Number.{number}
 use Rattle.trace.specs.Answer.{accepted}
-use Rattle.trace.specs.Field.{field, next, got, lost, ranged}
-use Rattle.trace.specs.declared.answer.Answer.the-variants.{OutOfRange}
+use Rattle.trace.specs.Field.{field, next, got, lost, ranged, answerOf, fieldOf, plainLost}
+use Rattle.trace.specs.declared.answer.Answer.the-variants.{Accepted, EndsEarly, BadNumber, UnknownKind, OutOfRange}
 use Rattle.trace.specs.declared.number.Number.{Number}
 use Rattle.trace.specs.declared.number.Number.the-variants.{Value, Ends, Padded, Oversized}
 use Rattle.trace.specs.declared.field.Field.{Field}
+use Rattle.trace.specs.declared.field.Plain.{Plain}
 
 -- the value is at most n
 abbrev AtMost : ℕ → Field → Type 0
@@ -38,9 +40,27 @@ next-most s before least most =
     pick-either (AtMost most) (accepted (before .answer)) (field s (before .end) least most) (lost (before .answer))
     (field-most s (before .end) least most) (omega arith)
 
--- what is read so is so bounded
-pub field-bound : (s : List ℕ) (at least most : ℕ) (f : Field) → f ≡ field s at least most → (f ≡ field s at least most) × (f .value ≤ most)
-field-bound s at least most f e = (e, rw e (field-most s at least most))
+-- numbers that stand for a bounded field are so bounded
+pub bound : (f : Field) (most : ℕ) (r : Plain) → f .value ≤ most → fieldOf r ≡ f → (fieldOf r ≡ f) × (r .value ≤ most)
+bound f most r h e = (e, subst (AtMost most) (sym e) h)
 
-pub next-bound : (s : List ℕ) (before : Field) (least most : ℕ) (f : Field) → f ≡ next s before least most → (f ≡ next s before least most) × (f .value ≤ most)
-next-bound s before least most f e = (e, rw e (next-most s before least most))
+-- of the four refusals of a field none is accepted
+first-test : (zero one two three : Bool) (at : ℕ) → accepted (pick zero Accepted (pick one (EndsEarly at) (pick two (BadNumber at) (pick three (UnknownKind at) (OutOfRange at))))) ≡ zero
+first-test true one two three at = refl
+first-test false true two three at = refl
+first-test false false true three at = refl
+first-test false false false true at = refl
+first-test false false false false at = refl
+
+-- so what the number 0 stands for is what is accepted
+pub accepted-of : (refusal at : ℕ) → accepted (answerOf refusal at) ≡ eqb refusal 0
+accepted-of refusal at = first-test (eqb refusal 0) (eqb refusal 1) (eqb refusal 2) (eqb refusal 3) at
+
+-- the field after one that is accepted, and after one that is refused
+pub next-got : (s : List ℕ) (before : Plain) (least most : ℕ) → before .refusal ≡ 0 → field s (before .end) least most ≡ next s (fieldOf before) least most
+unfolding next
+next-got s before least most e = rw e
+
+pub next-lost : (s : List ℕ) (before : Plain) (least most : ℕ) → (before .refusal ≡ 0 → ⊥) → fieldOf (plainLost (before .refusal) (before .end)) ≡ next s (fieldOf before) least most
+unfolding next
+next-lost s before least most h = rw (accepted-of (before .refusal) (before .end), ne-eqb (before .refusal) 0 h)

@@ -1,11 +1,12 @@
 // The records: one reader a record, over the bytes from the record's kind on.
 
 use crate::answer::Answer;
-use crate::answer::is_accepted;
-use crate::field::Field;
+use crate::field::Plain;
+use crate::field::UNKNOWN_KIND;
 use crate::field::lost_field;
 use crate::field::next_field;
 use crate::field::read_field;
+use crate::field::refusal_of;
 use crate::ranges::COUNT;
 use crate::ranges::FLAG;
 use crate::ranges::GANG_NODES;
@@ -31,6 +32,7 @@ ghost use mathlib.Core.Path.{_≡_};
 ghost use Prim.Native.Nat.{_≤_, _<_, _^_};
 ghost use lib.Ieee.{binary64, ofBits};
 ghost use Rattle.model.specs.Sizes.{permittedBits};
+ghost use Rattle.trace.specs.Field.{fieldOf};
 ghost use Rattle.trace.specs.Record.{priorityOf, leastSlices, mostSlices, upTo, nodeRead, gpuRead, quotaRead, profileRead, jobRead, optionsRead, kindField, fieldsRead, recordRead};
 
 // What a GPU record says; the GPU stands on the latest node.
@@ -96,14 +98,20 @@ fn most_slices(profile: u64) -> u64
 }
 
 // A record whose last field is given.
-fn up_to(last: Field, found: Record) -> Read
-    ensures { λ r. ⌜ r ≡ upTo last found ⌝ }
+fn up_to(last: Plain, found: Record) -> Read
+    ensures { λ r. ⌜ r ≡ upTo (fieldOf last) found ⌝ }
 {
-    let answer = last.answer;
+    if last.refusal == 0 {
+        return Read {
+            answer: Answer::Accepted,
+            found: found,
+            used: last.end,
+        };
+    }
     Read {
-        answer: answer,
+        answer: refusal_of(last.refusal, last.end),
         found: found,
-        used: last.end,
+        used: 0,
     }
 }
 
@@ -206,12 +214,12 @@ pub fn read_options(s: &[u8]) -> Read
 }
 
 // The record's kind: a number like any other, refused as a kind where no record has it.
-fn read_kind(s: &[u8]) -> Field
-    ensures { λ r. ⌜ r ≡ kindField (now (s .entry)) ⌝ }
+fn read_kind(s: &[u8]) -> Plain
+    ensures { λ r. ⌜ fieldOf r ≡ kindField (now (s .entry)) ⌝ }
 {
     let kind = read_field(s, 0, 0, 0xffff_ffff_ffff_ffff);
     if LAST_KIND < kind.value {
-        return lost_field(Answer::UnknownKind(0));
+        return lost_field(UNKNOWN_KIND, 0);
     }
     kind
 }
@@ -221,15 +229,10 @@ pub fn read_record(s: &[u8]) -> Read
     ensures { λ r. ⌜ r ≡ recordRead (now (s .entry)) ⌝ }
 {
     let kind = read_kind(s);
-    let answer = kind.answer;
-    if is_accepted(answer) {
+    if kind.refusal == 0 {
         return read_fields(s, kind.value);
     }
-    Read {
-        answer: answer,
-        found: Record::End,
-        used: 0,
-    }
+    up_to(kind, Record::End)
 }
 
 // The record of a kind, by the reader of that kind.

@@ -14,6 +14,9 @@ load-tables-requires c κs = search needs
 is-accepted-requires : tie.Need-is-accepted-requires
 is-accepted-requires c κs = search needs
 
+setting-of-requires : tie.Need-setting-of-requires
+setting-of-requires c κs = search needs
+
 cast-lesser : tie.Need-cast-lesser
 cast-lesser c = search needs
 
@@ -30,19 +33,39 @@ first-rest-requires : tie.Need-first-rest-requires
 first-rest-requires c κs = search needs
 
 run-requires : tie.Need-run-requires
-run-requires c κs = (c .before .before .before .before .before .before .before .before .before .before .before .before .before .before .before .before .before .before .before .before .before .pre, first-top _ (jobsOf (c .before .before .before .before .before .before .before .before .before .before .before .before .before .before .before .before .load-tables .last .1 .1 .0)) (c .before .before .before .before .before .before .before .before .lesser .result) (c .before .before .before .before .before .write-arrivals .ensures))
+run-requires c κs =
+    let jobs = jobsOf (c .before .before .before .before .before .before .before .before .before .before .before .before .before .before .before .before .before .before .before .load-tables .last .1 .1 .1 .1 .1 .0) in
+    (c .before .before .before .before .before .before .before .before .before .before .before .before .before .before .before .before .before .before .before .before .before .before .before .before .before .before .before .pre, first-top _ jobs (c .before .before .before .before .before .before .before .before .lesser .result) (c .before .before .before .before .before .write-arrivals .ensures))
 
 same-length : tie.Need-same-length
 same-length c = search needs
 
 returns : tie.Need-returns
-returns c = ran-lent (c .before .before .before .before .before .before .before .before .before .before .before .before .before .before .before .before .before .before .before .before .before .before .before .before .args .trace .now) (c .before .before .before .before .before .before .before .before .before .before .before .before .before .before .before .before .before .before .before .before .before .before .before .before .args .words .now) (c .before .before .before .before .before .before .before .before .before .before .before .before .before .before .before .before .before .before .before .load-tables .result) (c .before .before .before .before .before .before .before .before .before .before .before .before .before .before .before .before .before .before .before .load-tables .last .1 .0) (c .before .before .before .before .before .before .before .before .before .before .before .before .before .before .before .before .before .before .before .load-tables .last .1 .1 .0) (c .before .before .before .before .before .before .before .before .before .before .before .before .before .before .before .before .before .before .before .load-tables .ensures ∙ load-zeros (c .before .before .before .before .before .before .before .before .before .before .before .before .before .before .before .before .before .before .before .before .before .before .before .before .args .trace .now)) (c .before .before .run .result) (c .before .before .before .before .before .before .before .before .write-arrivals .last .0) (c .before .before .before .before .first-rest .result) _ (sym (c .before .before .before .before .before .before .before .before .before .before .before .before .before .before .before .before .before .before .is-accepted .ensures) ∙ c .before .before .before .before .before .before .before .before .before .before .before .before .before .before .before .before .before .if1 .taken) (first-room _ (jobsOf (c .before .before .before .before .before .before .before .before .before .before .before .before .before .before .before .before .before .before .before .load-tables .last .1 .1 .0)) (c .before .before .before .before .before .before .before .before .before .before .before .before .before .before .before .before .before .before .before .load-tables .result .loading .setting .jobs) (c .before .before .before .before .before .before .before .before .before .before .before .lesser .result) (c .before .before .before .before .before .before .before .before .before .before .before .before .job-places .result) (c .before .before .before .before .before .before .before .before .before .before .before .before .job-places .ensures) (c .before .before .before .before .before .before .before .before .before .before .before .lesser .ensures) (c .before .before .before .before .before .before .before .before .write-arrivals .ensures)) (c .before .before .before .before .first-rest .ensures) (c .before .before .run .ensures .0) (c .before .before .run .ensures .1)
+returns c =
+    let start = c .before .before .before .before .before .before .before .before .before .before .before .before .before .before .before .before .before .before .before .before .before .before .before .before .before .before .before .before .before .before .args in
+    let loaded = c .before .before .before .before .before .before .before .before .before .before .before .before .before .before .before .before .before .before .before .before .before .before .load-tables in
+    let setting = c .before .before .before .before .before .before .before .before .before .before .before .before .before .before .before .setting-of in
+    let places = c .before .before .before .before .before .before .before .before .before .before .before .before .job-places in
+    let lesser = c .before .before .before .before .before .before .before .before .before .before .before .lesser in
+    let rest = c .before .before .before .before .first-rest in
+    let gpus = loaded .last .1 .1 .1 .1 .0 in
+    let jobs = loaded .last .1 .1 .1 .1 .1 .0 in
+    let is = loaded .ensures ∙ load-zeros (start .trace .now) in
+    let accepted = sym (c .before .before .before .before .before .before .before .before .before .before .before .before .before .before .before .before .before .before .before .before .before .is-accepted .ensures) ∙ c .before .before .before .before .before .before .before .before .before .before .before .before .before .before .before .before .before .before .before .before .if1 .taken in
+    let n = rw (setting .ensures) at (lesser .ensures) in
+    let room = first-room _ (jobsOf jobs) (loaded .result .loading .jobs) (lesser .result) (places .result) (places .ensures) n (c .before .before .before .before .before .before .before .before .write-arrivals .ensures) in
+    ran-lent (start .trace .now) (start .words .now) (loaded .result) _ _ _ gpus jobs is (c .before .before .run .result) (c .before .before .before .before .before .before .before .before .write-arrivals .last .0) (rest .result) _ accepted room
+    (rw (setting .ensures) at (rest .ensures)) (c .before .before .run .ensures .0) (c .before .before .run .ensures .1)
 
 refused-requires : tie.Need-refused-requires
 refused-requires c κs = search needs
 
 returns-2 : tie.Need-returns-2
-returns-2 c = refused-lent (c .before .before .before .before .before .before .before .before .args .trace .now) (c .before .before .before .before .before .before .before .before .args .words .now) (c .before .before .before .load-tables .result) (c .before .before .before .load-tables .last .1 .0) (c .before .before .before .load-tables .last .1 .1 .0) (c .before .before .before .load-tables .ensures ∙ load-zeros (c .before .before .before .before .before .before .before .before .args .trace .now)) (c .refused .result) (sym (c .before .before .is-accepted .ensures) ∙ c .before .if1 .left) (c .refused .ensures)
+returns-2 c =
+    let start = c .before .before .before .before .before .before .before .before .before .before .before .args in
+    let loaded = c .before .before .before .load-tables in
+    let is = loaded .ensures ∙ load-zeros (start .trace .now) in
+    refused-lent (start .trace .now) (start .words .now) (loaded .result) _ _ _ (loaded .last .1 .1 .1 .1 .0) (loaded .last .1 .1 .1 .1 .1 .0) is (c .refused .result) (sym (c .before .before .is-accepted .ensures) ∙ c .before .if1 .left) (c .refused .ensures)
 
 pub load-and-run-spec : {M : Type 1} → statement M
 load-and-run-spec =
@@ -50,6 +73,7 @@ load-and-run-spec =
     (tie.spec
     load-tables-requires
     is-accepted-requires
+    setting-of-requires
     cast-lesser
     job-places-requires
     lesser-requires

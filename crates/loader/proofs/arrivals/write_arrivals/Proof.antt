@@ -24,9 +24,10 @@ loop-holds c = (omega arith, over-none (eventsOf (c .before .args .room .now)) (
 
 returns : tie.Need-returns Inv-loop μ-loop
 returns c =
+    let start = c .before .before .before .before .args in
     let here = c .before .before .loop in
     let places = c .before .before .before .job-places .ensures in
-    here .inv .1 ∙ over-all (eventsOf (c .before .before .before .before .args .room .now)) (jobsOf (c .before .before .before .before .args .jobs .now)) (here .i) (c .before .before .before .before .args .n) (omega (arith, places .0, places .1)) (omega arith)
+    here .inv .1 ∙ over-all (eventsOf (start .room .now)) (jobsOf (start .jobs .now)) (here .i) (start .n) (omega (arith, places .0, places .1)) (omega arith)
 
 read-job-requires : tie.Need-read-job-requires Inv-loop μ-loop
 read-job-requires c κs = search needs
@@ -46,10 +47,12 @@ loop-less c = omega arith
 loop-again : tie.Need-loop-again Inv-loop μ-loop
 loop-again c =
     let here = c .before .before .before .before .before .before .loop in
-    let places = c .before .before .before .before .before .before .before .job-places .ensures in (
+    let job-places = c .before .before .before .before .before .before .before .job-places in
+    let start = c .before .before .before .before .before .before .before .before .args in
+    let places = job-places .ensures in (
       omega arith,
       rw (c .write-event .ensures, c .before .arrival-of .ensures, c .before .before .read-job .ensures, here .inv .1)
-          (over-more (eventsOf (c .before .before .before .before .before .before .before .before .args .room .now)) (jobsOf (c .before .before .before .before .before .before .before .before .args .jobs .now)) (here .i) (omega (arith, places .0, places .1))),
+          (over-more (eventsOf (start .room .now)) (jobsOf (start .jobs .now)) (here .i) (omega (arith, places .0, places .1))),
     )
 
 returns-2 : tie.Need-returns-2 Inv-loop μ-loop

@@ -21,11 +21,11 @@ on-node-requires c κs = search needs
 enum-known-r : tie.Need-enum-known-r
 enum-known-r c = search needs
 
-cast-quota-at : tie.Need-cast-quota-at
-cast-quota-at c = search needs
+cast-word-at : tie.Need-cast-word-at
+cast-word-at c = search needs
 
-quota-at-requires : tie.Need-quota-at-requires
-quota-at-requires c κs = search needs
+word-at-requires : tie.Need-word-at-requires
+word-at-requires c κs = search needs
 
 once-requires : tie.Need-once-requires
 once-requires c κs = search needs
@@ -33,11 +33,11 @@ once-requires c κs = search needs
 enum-known-r-2 : tie.Need-enum-known-r-2
 enum-known-r-2 c = search needs
 
-cast-most-at : tie.Need-cast-most-at
-cast-most-at c = search needs
+cast-byte-at : tie.Need-cast-byte-at
+cast-byte-at c = search needs
 
-most-at-requires : tie.Need-most-at-requires
-most-at-requires c κs = search needs
+byte-at-requires : tie.Need-byte-at-requires
+byte-at-requires c κs = search needs
 
 once-requires-2 : tie.Need-once-requires-2
 once-requires-2 c κs = search needs
@@ -55,25 +55,25 @@ once-requires-3 : tie.Need-once-requires-3
 once-requires-3 c κs = search needs
 
 returns : tie.Need-returns
-returns c = rw (c .enum-told .given .1)
+returns c = λ sites. rw (c .enum-told .given .1)
 
 returns-2 : tie.Need-returns-2
-returns-2 c = rw (c .before .enum-told2 .given .1) (c .room-for .ensures)
+returns-2 c = λ sites. rw (c .before .enum-told2 .given .1) (c .room-for .ensures)
 
 returns-3 : tie.Need-returns-3
-returns-3 c = rw (c .before .enum-told3 .given .1) (c .on-node .ensures)
+returns-3 c = λ sites. rw (c .before .enum-told3 .given .1) (c .on-node .ensures)
 
 returns-4 : tie.Need-returns-4
-returns-4 c = rw (c .before .before .before .r .given .1, ← c .before .quota-at .ensures) (c .once .ensures)
+returns-4 c = λ sites. rw (c .before .before .before .before .r .given .1, ← c .before .word-at .ensures) (c .once .ensures)
 
 returns-5 : tie.Need-returns-5
-returns-5 c = rw (c .before .before .before .r2 .given .1, ← c .before .most-at .ensures) (c .once2 .ensures)
+returns-5 c = λ sites. rw (c .before .before .before .before .r2 .given .1, ← c .before .byte-at .ensures) (c .once2 .ensures)
 
 returns-6 : tie.Need-returns-6
-returns-6 c = rw (c .before .enum-told4 .given .1) (c .room-for2 .ensures)
+returns-6 c = λ sites. rw (c .before .enum-told4 .given .1) (c .room-for2 .ensures)
 
 returns-7 : tie.Need-returns-7
-returns-7 c = rw (c .before .enum-told5 .given .1) (c .once3 .ensures)
+returns-7 c = λ sites. rw (c .before .enum-told5 .given .1) (c .once3 .ensures)
 
 pub fault-of-spec : {M : Type 1} → statement M
 fault-of-spec =
@@ -85,12 +85,12 @@ fault-of-spec =
     enum-told-3
     on-node-requires
     enum-known-r
-    cast-quota-at
-    quota-at-requires
+    cast-word-at
+    word-at-requires
     once-requires
     enum-known-r-2
-    cast-most-at
-    most-at-requires
+    cast-byte-at
+    byte-at-requires
     once-requires-2
     enum-told-4
     room-for-requires-2

@@ -1,5 +1,8 @@
 -- `loader::load::finished` meets its contract.
 use borrow.Author.Needs.{needs}
+use mathlib.Core.Path.{_≡_, sym, _∙_}
+use mathlib.Core.Bool.{true, false}
+use Rattle.trace.specs.Answer.{accepted}
 use Rattle.loader.specs.Load.{finished}
 use Rattle.loader.proofs.load.finished.Statement.{statement}
 use Rattle.loader.proofs.load.finished.Tie as tie
@@ -12,14 +15,18 @@ plan-of-requires c κs = search needs
 
 returns : tie.Need-returns
 unfolding finished
-returns c = rw (← c .before .before .is-accepted .ensures, c .before .if1 .taken, c .plan-of .ensures)
+returns c =
+    let yes : accepted (c .before .before .before .before .args .t .answer) ≡ true = sym (c .before .before .is-accepted .ensures) ∙ c .before .if1 .taken in
+    rw (yes, c .plan-of .ensures)
 
 refused-requires : tie.Need-refused-requires
 refused-requires c κs = search needs
 
 returns-2 : tie.Need-returns-2
 unfolding finished
-returns-2 c = rw (← c .before .before .is-accepted .ensures, c .before .if1 .left) (c .refused .ensures)
+returns-2 c =
+    let no : accepted (c .before .before .before .before .args .t .answer) ≡ false = sym (c .before .before .is-accepted .ensures) ∙ c .before .if1 .left in
+    rw no (c .refused .ensures)
 
 pub finished-spec : {M : Type 1} → statement M
 finished-spec =

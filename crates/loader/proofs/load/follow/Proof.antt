@@ -2,7 +2,6 @@
 use borrow.Author.Needs.{needs}
 use borrow.Author.Tests.{eq-eqb, ne-eqb}
 use Rattle.trace.specs.AnswerLaws.{accepted-is}
-use Rattle.loader.specs.Fault.{faultOf}
 use Rattle.loader.specs.Load.{follow}
 use Rattle.loader.proofs.load.follow.Statement.{statement}
 use Rattle.loader.proofs.load.follow.Tie as tie
@@ -15,14 +14,18 @@ turn-over-requires c κs = search needs
 
 returns : tie.Need-returns
 unfolding follow
-returns c = rw (← c .before .before .before .is-end .ensures, c .before .before .if1 .taken, eq-eqb (c .before .before .before .before .args .end) (c .before .before .before .before .args .length) (c .before .if2 .taken), c .turn-over .ensures)
+returns c =
+    let start = c .before .before .before .before .args in
+    rw (← c .before .before .before .is-end .ensures, c .before .before .if1 .taken, eq-eqb (start .end) (start .length) (c .before .if2 .taken), c .turn-over .ensures)
 
 turn-over-requires-2 : tie.Need-turn-over-requires-2
 turn-over-requires-2 c κs = search needs
 
 returns-2 : tie.Need-returns-2
 unfolding follow
-returns-2 c = rw (← c .before .before .before .is-end .ensures, c .before .before .if1 .taken, ne-eqb (c .before .before .before .before .args .end) (c .before .before .before .before .args .length) (c .before .if2 .left), c .turn-over2 .ensures)
+returns-2 c =
+    let start = c .before .before .before .before .args in
+    rw (← c .before .before .before .is-end .ensures, c .before .before .if1 .taken, ne-eqb (start .end) (start .length) (c .before .if2 .left), c .turn-over2 .ensures)
 
 fault-of-requires : tie.Need-fault-of-requires
 fault-of-requires c κs = search needs
@@ -31,21 +34,41 @@ is-accepted-requires : tie.Need-is-accepted-requires
 is-accepted-requires c κs = search needs
 
 put-record-requires : tie.Need-put-record-requires
-put-record-requires c κs = accepted-is (faultOf (c .before .before .before .before .before .before .before .before .args .t .setting) (c .before .before .before .before .before .before .before .before .args .t .told) (c .before .before .before .before .before .before .before .before .args .at) (c .before .before .before .before .before .before .before .before .args .r)) (rw (← c .before .before .before .before .fault-of .ensures, ← c .before .before .before .is-accepted .ensures) (c .before .before .if3 .taken))
+put-record-requires c κs =
+    let if3 = c .before .before .before .before .before .if3 in
+    let is-accepted = c .before .before .before .before .before .before .is-accepted in
+    let fault-of = c .before .before .before .before .before .before .before .fault-of in
+    let start = c .before .before .before .before .before .before .before .before .before .before .before .before .args in
+    let told = fault-of .ensures (start .sites .now) in
+    rw (← told) (accepted-is (fault-of .result) (rw (← is-accepted .ensures) (if3 .taken)))
 
 turn-on-requires : tie.Need-turn-on-requires
 turn-on-requires c κs = search needs
 
 returns-3 : tie.Need-returns-3
 unfolding follow
-returns-3 c = rw (← c .before .before .before .before .before .before .before .before .before .is-end .ensures, c .before .before .before .before .before .before .before .before .if1 .left, ← c .before .before .before .before .before .before .fault-of .ensures, ← c .before .before .before .before .before .is-accepted .ensures, c .before .before .before .before .if3 .taken, ← c .before .put-record .ensures, c .turn-on .ensures)
+returns-3 c =
+    let if3 = c .before .before .before .before .before .before .before .if3 in
+    let is-accepted = c .before .before .before .before .before .before .before .before .is-accepted in
+    let fault-of = c .before .before .before .before .before .before .before .before .before .fault-of in
+    let if1 = c .before .before .before .before .before .before .before .before .before .before .before .before .if1 in
+    let back = c .before .before .before .before .before .before .before .before .before .before in
+    let is-end = back .before .before .before .is-end in
+    let start = back .before .before .before .before .args in
+    let told = fault-of .ensures (start .sites .now) in
+    rw (← is-end .ensures, if1 .left, ← told, ← is-accepted .ensures, if3 .taken, ← c .before .put-record .ensures, c .turn-on .ensures)
 
 turn-over-requires-3 : tie.Need-turn-over-requires-3
 turn-over-requires-3 c κs = search needs
 
 returns-4 : tie.Need-returns-4
 unfolding follow
-returns-4 c = rw (← c .before .before .before .before .before .before .is-end .ensures, c .before .before .before .before .before .if1 .left, ← c .before .before .before .fault-of .ensures, ← c .before .before .is-accepted .ensures, c .before .if3 .left, c .turn-over3 .ensures)
+returns-4 c =
+    let if1 = c .before .before .before .before .before .before .if1 in
+    let is-end = c .before .before .before .before .before .before .before .is-end in
+    let start = c .before .before .before .before .before .before .before .before .args in
+    let told = c .before .before .before .fault-of .ensures (start .sites .now) in
+    rw (← is-end .ensures, if1 .left, ← told, ← c .before .before .is-accepted .ensures, c .before .if3 .left, c .turn-over3 .ensures)
 
 pub follow-spec : {M : Type 1} → statement M
 follow-spec =

@@ -13,7 +13,11 @@ finished-requires : tie.Need-finished-requires
 finished-requires c κs = search needs
 
 returns : tie.Need-returns
-returns c = c .finished .ensures ∙ c .before .before .before .load-tables .ensures ∙ load-zeros (now (c .before .before .before .before .before .before .before .args .trace))
+returns c =
+    let load-tables = c .before .before .before .before .before .before .load-tables in
+    let back = c .before .before .before .before .before .before .before .before .before .before in
+    let start = back .before .before .before .args in
+    c .finished .ensures ∙ load-tables .ensures ∙ load-zeros (now (start .trace))
 
 pub load-spec : {M : Type 1} → statement M
 load-spec = tie.close (tie.spec load-tables-requires finished-requires returns)

@@ -24,7 +24,9 @@ take-turns-requires c κs = search needs
 
 returns-2 : tie.Need-returns-2
 unfolding loadInto
-returns-2 c = rw (le-ltb Sizes.traceBytes (length (now (c .before .before .before .before .before .args .trace))) (omega arith)) (c .take-turns .ensures)
+returns-2 c =
+    let start = c .before .before .before .before .before .before .before .before .args in
+    rw (le-ltb Sizes.traceBytes (length (now (start .trace))) (omega arith)) (c .take-turns .ensures)
 
 pub load-tables-spec : {M : Type 1} → statement M
 load-tables-spec =

@@ -31,17 +31,28 @@ told : (c : tie.After-read-record) → c .read-record .result ≡ recordRead (dr
 told c = rw (rest (now (c .before .before .before .args .trace)) (c .before .before .before .args .at)) at (c .read-record .ensures)
 
 add-follow : tie.Need-add-follow
-add-follow c = let i = read-inside (now (c .before .before .before .before .before .before .before .before .args .trace)) (c .before .before .before .before .before .before .before .before .args .at) (c .before .before .before .before .before .before .before .before .pre) in record { fits = omega (arith, rw (← told (c .before .before .before .before .before)) at (i .1)) }
+add-follow c =
+    let start = c .before .before .before .before .before .before .before .before .before .before .before .args in
+    let pre = c .before .before .before .before .before .before .before .before .before .before .before .pre in
+    let i = read-inside (now (start .trace)) (start .at) pre in
+    record { fits = omega (arith, rw (← told (c .before .before .before .before .before .before .before .before)) at (i .1)) }
 
 follow-requires : tie.Need-follow-requires
 follow-requires c κs = search needs
 
 returns : tie.Need-returns
 unfolding turn
-returns c = rw (← told (c .before .before .before .before .before .before), ← c .before .before .before .before .before .is-accepted .ensures, c .before .before .before .before .if1 .taken) (c .follow .ensures)
+returns c =
+    let if1 = c .before .before .before .before .before .before .before .if1 in
+    let is-accepted = c .before .before .before .before .before .before .before .before .is-accepted in
+    rw (← told (c .before .before .before .before .before .before .before .before .before), ← is-accepted .ensures, if1 .taken) (c .follow .ensures)
 
 shift-requires : tie.Need-shift-requires
-shift-requires c κs = let i = read-inside (now (c .before .before .before .before .before .args .trace)) (c .before .before .before .before .before .args .at) (c .before .before .before .before .before .pre) in omega (arith, rw (← told (c .before .before)) at (i .0))
+shift-requires c κs =
+    let start = c .before .before .before .before .before .args in
+    let pre = c .before .before .before .before .before .pre in
+    let i = read-inside (now (start .trace)) (start .at) pre in
+    omega (arith, rw (← told (c .before .before)) at (i .0))
 
 turn-over-requires : tie.Need-turn-over-requires
 turn-over-requires c κs = search needs

@@ -12,10 +12,11 @@ use Rattle.loader.proofs.load.take_turns.Statement.{statement}
 use Rattle.loader.proofs.load.take_turns.Tie as tie
 
 abbrev Inv-loop : tie.InvT-loop
-Inv-loop trace gpus₀ jobs₀ n t₀ at₀ i₀ gpus jobs t at i = (i ≤ n) × (at ≤ length trace) × (turns (n - i) trace at (wholeTables t gpus jobs) ≡ turns n trace 0 (wholeTables t₀ gpus₀ jobs₀))
+Inv-loop trace sites₀ quotas₀ mosts₀ gpus₀ jobs₀ n t₀ at₀ i₀ sites quotas mosts gpus jobs t at i =
+    (i ≤ n) × (at ≤ length trace) × (turns (n - i) trace at (wholeTables t sites quotas mosts gpus jobs) ≡ turns n trace 0 (wholeTables t₀ sites₀ quotas₀ mosts₀ gpus₀ jobs₀))
 
 abbrev μ-loop : tie.MeasureT-loop
-μ-loop trace gpus₀ jobs₀ n t₀ at₀ i₀ gpus jobs t at i = n - i
+μ-loop trace sites₀ quotas₀ mosts₀ gpus₀ jobs₀ n t₀ at₀ i₀ sites quotas mosts gpus jobs t at i = n - i
 
 no-loading-requires : tie.Need-no-loading-requires Inv-loop μ-loop
 no-loading-requires c κs = search needs
@@ -26,14 +27,16 @@ loop-holds c =
     (omega arith, omega arith, rw e)
 
 take-turn-requires : tie.Need-take-turn-requires Inv-loop μ-loop
-take-turn-requires c κs = c .before .before .before .loop .inv .1
+take-turn-requires c κs = c .before .before .before .before .before .before .loop .inv .1
 
 returns : tie.Need-returns Inv-loop μ-loop
 returns c =
-    let trace = now (c .before .before .before .before .before .before .before .before .args .trace) in
-    let here = c .before .before .before .before .before .loop in
+    let here = c .before .before .before .before .before .before .before .before .loop in
+    let no-loading = c .before .before .before .before .before .before .before .before .before .no-loading in
+    let start = c .before .before .before .before .before .before .before .before .before .before .before .args in
+    let trace = now (start .trace) in
     let e = c .before .take-turn .ensures in
-    rw (← c .before .before .before .before .before .before .no-loading .ensures, ← here .inv .2, turns-over trace (length trace) (here .i) (here .at) (wholeTables (here .t) (here .gpus) (here .jobs)) (omega arith) (rw (← e) (c .if1 .taken)), ← e)
+    rw (← no-loading .ensures, ← here .inv .2, turns-over trace (length trace) (here .i) (here .at) (wholeTables (here .t) (here .sites) (here .quotas) (here .mosts) (here .gpus) (here .jobs)) (omega arith) (rw (← e) (c .if1 .taken)), ← e)
 
 add-i : tie.Need-add-i Inv-loop μ-loop
 add-i c = search needs
@@ -43,9 +46,9 @@ loop-less c = omega arith
 
 loop-again : tie.Need-loop-again Inv-loop μ-loop
 loop-again c =
-    let trace = now (c .before .before .before .before .before .before .before .before .before .args .trace) in
-    let here = c .before .before .before .before .before .before .loop in
-    let tables = wholeTables (here .t) (here .gpus) (here .jobs) in
+    let trace = now (c .before .before .before .before .before .before .before .before .before .before .before .before .args .trace) in
+    let here = c .before .before .before .before .before .before .before .before .before .loop in
+    let tables = wholeTables (here .t) (here .sites) (here .quotas) (here .mosts) (here .gpus) (here .jobs) in
     let e = c .before .before .take-turn .ensures in (
       omega arith,
       rw (← e) at (turn-inside trace (here .at) tables (here .inv .1)),
@@ -58,9 +61,10 @@ turn-over-requires c κs = search needs
 returns-2 : tie.Need-returns-2 Inv-loop μ-loop
 unfolding finished
 returns-2 c =
-    let trace = now (c .before .before .before .before .before .args .trace) in
+    let start = c .before .before .before .before .before .args in
+    let trace = now (start .trace) in
     let here = c .before .before .loop in
-    rw (← c .before .before .before .no-loading .ensures, ← here .inv .2, turns-end trace (length trace) (here .i) (here .at) (wholeTables (here .t) (here .gpus) (here .jobs)) (omega arith), c .turn-over .ensures)
+    rw (← c .before .before .before .no-loading .ensures, ← here .inv .2, turns-end trace (length trace) (here .i) (here .at) (wholeTables (here .t) (here .sites) (here .quotas) (here .mosts) (here .gpus) (here .jobs)) (omega arith), c .turn-over .ensures)
 
 pub take-turns-spec : {M : Type 1} → statement M
 take-turns-spec =

@@ -4,12 +4,12 @@ use Rattle.loader.specs.Tables.{noLoading}
 use Rattle.loader.proofs.tables.no_loading.Statement.{statement}
 use Rattle.loader.proofs.tables.no_loading.Tie as tie
 
-empty-setting-requires : tie.Need-empty-setting-requires
-empty-setting-requires c κs = search needs
+default-options-requires : tie.Need-default-options-requires
+default-options-requires c κs = search needs
 
 returns : tie.Need-returns
 unfolding noLoading
-returns c = rw (c .empty-setting .ensures)
+returns c = rw (c .default-options .ensures)
 
 pub no-loading-spec : {M : Type 1} → statement M
-no-loading-spec = tie.close (tie.spec empty-setting-requires returns)
+no-loading-spec = tie.close (tie.spec default-options-requires returns)

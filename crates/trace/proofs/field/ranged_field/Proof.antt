@@ -12,16 +12,21 @@ lost-field-requires : tie.Need-lost-field-requires
 lost-field-requires c κs = search needs
 
 returns : tie.Need-returns
-returns c = rw (c .before .before .before .n .given .1, lt-ltb (c .before .before .before .n .given .0 .0) (c .before .before .before .before .before .args .least) (c .before .if1 .taken)) (c .lost-field .ensures)
+returns c =
+    let n = c .before .before .before .n .given in
+    rw (c .lost-field .ensures, n .1, lt-ltb (n .0 .0) (c .before .before .before .before .before .args .least) (c .before .if1 .taken))
 
 lost-field-requires-2 : tie.Need-lost-field-requires-2
 lost-field-requires-2 c κs = search needs
 
 returns-2 : tie.Need-returns-2
-returns-2 c = rw (c .before .before .before .before .n .given .1, le-ltb (c .before .before .before .before .n .given .0 .0) (c .before .before .before .before .before .before .args .least) (c .before .before .if1 .left), lt-ltb (c .before .before .before .before .before .before .args .most) (c .before .before .before .before .n .given .0 .0) (c .before .if2 .taken)) (c .lost-field2 .ensures)
+returns-2 c =
+    let a = c .before .before .before .before .before .before .args in
+    let n = c .before .before .before .before .n .given in
+    rw (c .lost-field2 .ensures, n .1, le-ltb (n .0 .0) (a .least) (c .before .before .if1 .left), lt-ltb (a .most) (n .0 .0) (c .before .if2 .taken))
 
-add-t13 : tie.Need-add-t13
-add-t13 c = record { fits = omega (arith, rw (c .before .before .before .n .given .1) at (c .before .before .before .before .before .pre)) }
+add-t10 : tie.Need-add-t10
+add-t10 c = record { fits = omega (arith, rw (c .before .before .before .n .given .1) at (c .before .before .before .before .before .pre)) }
 
 enum-told : tie.Need-enum-told
 enum-told c = search needs
@@ -42,16 +47,19 @@ lost-field-requires-5 : tie.Need-lost-field-requires-5
 lost-field-requires-5 c κs = search needs
 
 returns-3 : tie.Need-returns-3
-returns-3 c = rw (c .before .before .before .n .given .1, le-ltb (c .before .before .before .n .given .0 .0) (c .before .before .before .before .before .args .least) (c .before .if1 .left), le-ltb (c .before .before .before .before .before .args .most) (c .before .before .before .n .given .0 .0) (c .if2 .left))
+returns-3 c =
+    let a = c .before .before .before .before .before .args in
+    let n = c .before .before .before .n .given in
+    rw (n .1, le-ltb (n .0 .0) (a .least) (c .before .if1 .left), le-ltb (a .most) (n .0 .0) (c .if2 .left))
 
 returns-4 : tie.Need-returns-4
-returns-4 c = rw (c .before .enum-told .given .1) (c .lost-field3 .ensures)
+returns-4 c = rw (c .lost-field3 .ensures, c .before .enum-told .given .1)
 
 returns-5 : tie.Need-returns-5
-returns-5 c = rw (c .before .enum-told2 .given .1) (c .lost-field4 .ensures)
+returns-5 c = rw (c .lost-field4 .ensures, c .before .enum-told2 .given .1)
 
 returns-6 : tie.Need-returns-6
-returns-6 c = rw (c .before .enum-told3 .given .1) (c .lost-field5 .ensures)
+returns-6 c = rw (c .lost-field5 .ensures, c .before .enum-told3 .given .1)
 
 pub ranged-field-spec : {M : Type 1} → statement M
 ranged-field-spec =
@@ -62,7 +70,7 @@ ranged-field-spec =
     returns
     lost-field-requires-2
     returns-2
-    add-t13
+    add-t10
     enum-told
     lost-field-requires-3
     enum-told-2

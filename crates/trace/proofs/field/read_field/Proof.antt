@@ -7,7 +7,7 @@ use lib.ListN.{drop, drop-of-length-le}
 use Rattle.laws.specs.Tables.{rest}
 use Rattle.trace.specs.Number.{number}
 use Rattle.trace.specs.Field.{field}
-use Rattle.trace.specs.FieldLaws.{field-bound}
+use Rattle.trace.specs.FieldLaws.{field-most, bound}
 use Rattle.trace.specs.NumberLaws.{number-none, number-inside}
 use Rattle.trace.proofs.field.read_field.Statement.{statement}
 use Rattle.trace.proofs.field.read_field.Tie as tie
@@ -17,7 +17,11 @@ lost-field-requires c κs = search needs
 
 returns : tie.Need-returns
 unfolding field
-returns c = field-bound (now (c .before .before .before .args .s)) (c .before .before .before .args .at) (c .before .before .before .args .least) (c .before .before .before .args .most) (c .lost-field .result) (rw (drop-of-length-le (now (c .before .before .before .args .s)) {i = c .before .before .before .args .at} (omega arith), number-none) (c .lost-field .ensures))
+returns c =
+    let a = c .before .before .before .args in
+    let s = now (a .s) in
+    bound (field s (a .at) (a .least) (a .most)) (a .most) (c .lost-field .result) (field-most s (a .at) (a .least) (a .most))
+    (rw (c .lost-field .ensures, drop-of-length-le s {i = a .at} (omega arith), number-none))
 
 sub-read-number : tie.Need-sub-read-number
 sub-read-number c = search needs
@@ -40,7 +44,11 @@ ranged-field-requires c κs = rw (told c) (number-inside (now (c .before .before
 
 returns-2 : tie.Need-returns-2
 unfolding field
-returns-2 c = field-bound (now (c .before .before .before .before .before .args .s)) (c .before .before .before .before .before .args .at) (c .before .before .before .before .before .args .least) (c .before .before .before .before .before .args .most) (c .ranged-field .result) (rw (c .ranged-field .ensures, told (c .before)))
+returns-2 c =
+    let a = c .before .before .before .before .before .args in
+    let s = now (a .s) in
+    bound (field s (a .at) (a .least) (a .most)) (a .most) (c .ranged-field .result) (field-most s (a .at) (a .least) (a .most))
+    (rw (← told (c .before)) (c .ranged-field .ensures))
 
 pub read-field-spec : {M : Type 1} → statement M
 read-field-spec =

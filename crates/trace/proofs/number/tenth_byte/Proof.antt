@@ -22,7 +22,7 @@ add-t8 : tie.Need-add-t8
 add-t8 c = search needs
 
 returns-3 : tie.Need-returns-3
-returns-3 c = rw (tenth-one (now (c .before .before .before .before .before .before .args .s)) (omega arith) (cc))
+returns-3 c = rw (tenth-one (now (c .before .before .before .before .before .before .args .s)) (omega arith) (omega arith))
 
 returns-4 : tie.Need-returns-4
 returns-4 c = rw (tenth-over (now (c .before .before .before .before .before .before .args .s)) (omega arith) (λ z. c .before .if2 .left (cc)) (λ z. c .if3 .left (cc)))

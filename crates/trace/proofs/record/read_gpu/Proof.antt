@@ -31,7 +31,13 @@ up-to-requires c κs = search needs
 
 returns : tie.Need-returns
 unfolding gpuRead
-returns c = rw (c .up-to .ensures, c .before .before .before .float-of .ensures, c .before .before .before .before .before .next-field3 .ensures .0, c .before .before .before .before .before .before .next-field2 .ensures .0, c .before .before .before .before .before .before .before .next-field .ensures .0, c .before .before .before .before .before .before .before .before .read-field .ensures .0)
+returns c =
+    let card = c .before .before .before in
+    let mig = card .before .before in
+    let group = mig .before in
+    let memory = group .before in
+    let kind = memory .before in
+    rw (c .up-to .ensures, card .float-of .ensures, ← kind .read-field .ensures .0, ← memory .next-field .ensures .0, ← group .next-field2 .ensures .0, ← mig .next-field3 .ensures .0)
 
 pub read-gpu-spec : {M : Type 1} → statement M
 read-gpu-spec =

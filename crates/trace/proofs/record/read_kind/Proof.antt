@@ -14,11 +14,15 @@ lost-field-requires c κs = search needs
 
 returns : tie.Need-returns
 unfolding kindField
-returns c = rw (← c .before .before .before .read-field .ensures .0, lt-ltb Ranges.lastKind (c .before .before .before .read-field .result .value) (c .before .if1 .taken)) (c .lost-field .ensures)
+returns c =
+    let kind = c .before .before .before .read-field in
+    rw (c .lost-field .ensures, ← kind .ensures .0, lt-ltb Ranges.lastKind (kind .result .value) (c .before .if1 .taken))
 
 returns-2 : tie.Need-returns-2
 unfolding kindField
-returns-2 c = rw (← c .before .before .read-field .ensures .0, le-ltb Ranges.lastKind (c .before .before .read-field .result .value) (c .if1 .left))
+returns-2 c =
+    let kind = c .before .before .read-field in
+    rw (← kind .ensures .0, le-ltb Ranges.lastKind (kind .result .value) (c .if1 .left))
 
 pub read-kind-spec : {M : Type 1} → statement M
 read-kind-spec = tie.close (tie.spec read-field-requires lost-field-requires returns returns-2)

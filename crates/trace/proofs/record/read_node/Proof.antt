@@ -16,7 +16,7 @@ up-to-requires c κs = search needs
 
 returns : tie.Need-returns
 unfolding nodeRead
-returns c = rw (c .up-to .ensures, c .before .before .read-field .ensures .0)
+returns c = rw (c .up-to .ensures, ← c .before .before .read-field .ensures .0)
 
 pub read-node-spec : {M : Type 1} → statement M
 read-node-spec = tie.close (tie.spec read-field-requires cast-t3 up-to-requires returns)

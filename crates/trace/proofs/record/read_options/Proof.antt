@@ -34,7 +34,24 @@ up-to-requires c κs = search needs
 
 returns : tie.Need-returns
 unfolding optionsRead
-returns c = rw (c .up-to .ensures, c .before .before .before .float-of3 .ensures, c .before .before .before .before .float-of2 .ensures, c .before .before .before .before .before .float-of .ensures, c .before .before .before .before .before .before .next-field4 .ensures .0, c .before .before .before .before .before .before .before .next-field3 .ensures .0, c .before .before .before .before .before .before .before .before .next-field2 .ensures .0, c .before .before .before .before .before .before .before .before .before .next-field .ensures .0, c .before .before .before .before .before .before .before .before .before .before .read-field .ensures .0)
+returns c =
+    let floats = c .before .before .before in
+    let aware = floats .before .before .before in
+    let best = aware .before in
+    let multiplier = best .before in
+    let penalty = multiplier .before in
+    let seconds = penalty .before in
+    rw (
+      c .up-to .ensures,
+      floats .float-of3 .ensures,
+      floats .before .float-of2 .ensures,
+      floats .before .before .float-of .ensures,
+      ← seconds .read-field .ensures .0,
+      ← penalty .next-field .ensures .0,
+      ← multiplier .next-field2 .ensures .0,
+      ← best .next-field3 .ensures .0,
+      ← aware .next-field4 .ensures .0,
+    )
 
 pub read-options-spec : {M : Type 1} → statement M
 read-options-spec =

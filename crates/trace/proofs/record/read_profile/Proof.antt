@@ -22,7 +22,7 @@ up-to-requires c κs = search needs
 
 returns : tie.Need-returns
 unfolding profileRead
-returns c = rw (c .up-to .ensures, c .before .before .before .next-field .ensures .0, c .before .before .before .before .read-field .ensures .0)
+returns c = rw (c .up-to .ensures, ← c .before .before .before .before .read-field .ensures .0, ← c .before .before .before .next-field .ensures .0)
 
 pub read-profile-spec : {M : Type 1} → statement M
 read-profile-spec =

@@ -21,7 +21,7 @@ up-to-requires c κs = search needs
 
 returns : tie.Need-returns
 unfolding quotaRead
-returns c = rw (c .up-to .ensures, c .before .before .before .next-field .ensures .0, c .before .before .before .before .read-field .ensures .0)
+returns c = rw (c .up-to .ensures, ← c .before .before .before .before .read-field .ensures .0, ← c .before .before .before .next-field .ensures .0)
 
 pub read-quota-spec : {M : Type 1} → statement M
 read-quota-spec =
