@@ -65,9 +65,12 @@ open-if true tenant other h =
 pub candidate-means : (aware : Bool) (ask : Ask) (v : Job) → candidate aware ask v ≡ true → MakesWay aware ask v
 unfolding candidate
 candidate-means aware ask v h =
-    let a : (running v && ltb (v .ask .priority) (ask .priority) ≡ true) × (ltb (v .evictions) 3 && openTo aware (ask .tenant) (v .ask .tenant) ≡ true) = and-both (running v && ltb (v .ask .priority) (ask .priority)) (ltb (v .evictions) 3 && openTo aware (ask .tenant) (v .ask .tenant)) h in
+    let a : (running v && ltb (v .ask .priority) (ask .priority) ≡ true) ×
+    (ltb (v .evictions) 3 && openTo aware (ask .tenant) (v .ask .tenant) ≡ true) =
+    and-both (running v && ltb (v .ask .priority) (ask .priority)) (ltb (v .evictions) 3 && openTo aware (ask .tenant) (v .ask .tenant)) h in
     let b : (running v ≡ true) × (ltb (v .ask .priority) (ask .priority) ≡ true) = and-both (running v) (ltb (v .ask .priority) (ask .priority)) (a .0) in
-    let d : (ltb (v .evictions) 3 ≡ true) × (openTo aware (ask .tenant) (v .ask .tenant) ≡ true) = and-both (ltb (v .evictions) 3) (openTo aware (ask .tenant) (v .ask .tenant)) (a .1) in
+    let d : (ltb (v .evictions) 3 ≡ true) × (openTo aware (ask .tenant) (v .ask .tenant) ≡ true) =
+    and-both (ltb (v .evictions) 3) (openTo aware (ask .tenant) (v .ask .tenant)) (a .1) in
     record {
       runs-now = runs-only (v .state) (b .0);
       below = ltb-true (v .ask .priority) (ask .priority) (b .1);
@@ -88,27 +91,32 @@ module _ (s : Setting) (jobs : List Job) (ask : Ask) where
   -- what is among them makes way
   pub candidates-in : (i : ℕ) → has i (candidates s jobs ask) ≡ true → (i < 128) × (i < s .jobs) × MakesWay (s .options .aware) ask (getD jobs i noJob)
   candidates-in i h =
-      let r : (i < 128) × (i < s .jobs) × (candidateAt (s .options .aware) jobs ask i ≡ true) = has-all (λ k. (k < 128) × (k < s .jobs) × (candidateAt (s .options .aware) jobs ask k ≡ true)) i (candidates s jobs ask) (candidates-each s jobs ask) h in
+      let r : (i < 128) × (i < s .jobs) × (candidateAt (s .options .aware) jobs ask i ≡ true) =
+      has-all (λ k. (k < 128) × (k < s .jobs) × (candidateAt (s .options .aware) jobs ask k ≡ true)) i (candidates s jobs ask) (candidates-each s jobs ask) h in
       (r .0, r .1, candidate-means (s .options .aware) ask (getD jobs i noJob) (r .2))
 
   -- none is left out
   pub candidates-has : (i : ℕ) → i < min (s .jobs) 128 → candidateAt (s .options .aware) jobs ask i ≡ true → has i (candidates s jobs ask) ≡ true
   unfolding candidates candidatesByNumber
   candidates-has i h t =
-      sort-has (lower jobs) i (candidatesByNumber (s .options .aware) jobs (s .jobs) ask) ∙ those-has (candidateAt (s .options .aware) jobs ask) (min (s .jobs) 128) 0 i (omega arith) (omega arith) t
+      sort-has (lower jobs) i (candidatesByNumber (s .options .aware) jobs (s .jobs) ask)
+      ∙ those-has (candidateAt (s .options .aware) jobs ask) (min (s .jobs) 128) 0 i (omega arith) (omega arith) t
 
   -- none stands there twice
   pub candidates-distinct : Distinct (candidates s jobs ask)
   unfolding candidates candidatesByNumber
   candidates-distinct =
-      sort-distinct (lower jobs) (candidatesByNumber (s .options .aware) jobs (s .jobs) ask) (those-distinct (candidateAt (s .options .aware) jobs ask) (min (s .jobs) 128) 0)
+      sort-distinct (lower jobs) (candidatesByNumber (s .options .aware) jobs (s .jobs) ask)
+      (those-distinct (candidateAt (s .options .aware) jobs ask) (min (s .jobs) 128) 0)
 
   -- there are at most 128, and at most as many as jobs
   pub candidates-length : (length (candidates s jobs ask) ≤ 128) × (length (candidates s jobs ask) ≤ s .jobs)
   unfolding candidates candidatesByNumber
   candidates-length =
-      let e : length (candidates s jobs ask) ≡ length (candidatesByNumber (s .options .aware) jobs (s .jobs) ask) = sort-length (lower jobs) (candidatesByNumber (s .options .aware) jobs (s .jobs) ask) in
-      let h : length (candidatesByNumber (s .options .aware) jobs (s .jobs) ask) ≤ min (s .jobs) 128 = those-length (candidateAt (s .options .aware) jobs ask) (min (s .jobs) 128) 0 in
+      let e : length (candidates s jobs ask) ≡ length (candidatesByNumber (s .options .aware) jobs (s .jobs) ask) =
+      sort-length (lower jobs) (candidatesByNumber (s .options .aware) jobs (s .jobs) ask) in
+      let h : length (candidatesByNumber (s .options .aware) jobs (s .jobs) ask) ≤ min (s .jobs) 128 =
+      those-length (candidateAt (s .options .aware) jobs ask) (min (s .jobs) 128) 0 in
       (omega arith, omega arith)
 
 -- ---- by priority, then job number
@@ -160,8 +168,10 @@ module _ (jobs : List Job) where
       (lower jobs x y)
       (λ e. rw e
       ((ahead-lower x y (h .0) e, behind y l e (h .1) (k .0)), k))
-      (λ e. rw e
-      (insert-all (lower jobs) (Ahead jobs y) x l (inl (leb-false (priorityOf (getD jobs x noJob)) (priorityOf (getD jobs y noJob)) e)) (k .0), ahead-insert x l (h .1) (k .1)))
+      (λ e. rw e (
+        insert-all (lower jobs) (Ahead jobs y) x l (inl (leb-false (priorityOf (getD jobs x noJob)) (priorityOf (getD jobs y noJob)) e)) (k .0),
+        ahead-insert x l (h .1) (k .1),
+      ))
     where
       behind : (y : ℕ) (l : List ℕ) → lower jobs x y ≡ true → All (λ z. x < z) l → All (Ahead jobs y) l → All (Ahead jobs x) l
       behind y l e a b =
@@ -208,7 +218,8 @@ module _ (s : Setting) (jobs : List Job) (ask : Ask) where
       sort-ordered (lower jobs) (lower-order jobs) (candidatesByNumber (s .options .aware) jobs (s .jobs) ask)
 
   -- those with the priority of x keep their job order
-  pub candidates-stable : (x : ℕ) → only (λ y. lower jobs x y && lower jobs y x) (candidates s jobs ask) ≡ only (λ y. lower jobs x y && lower jobs y x) (candidatesByNumber (s .options .aware) jobs (s .jobs) ask)
+  pub candidates-stable : (x : ℕ) → only (λ y. lower jobs x y && lower jobs y x) (candidates s jobs ask) ≡ only
+      (λ y. lower jobs x y && lower jobs y x) (candidatesByNumber (s .options .aware) jobs (s .jobs) ask)
   unfolding candidates
   candidates-stable x =
       sort-stable-equal (lower jobs) (lower-order jobs) x (candidatesByNumber (s .options .aware) jobs (s .jobs) ask)

@@ -62,7 +62,8 @@ module _ (s : Setting) (clock : Float) (jobs : List Job) where
       record {
         evicted =
             rw f
-            (all-in (WasEvicted p) (WasEvicted q) vs (λ k m w. (w .0, other k (has-all (λ y. id ≡ y → ⊥) k vs (all-left (λ y. id ≡ y → ⊥) vs ps a) m) ∙ w .1)) (c .evicted));
+            (all-in (WasEvicted p) (WasEvicted q) vs
+            (λ k m w. (w .0, other k (has-all (λ y. id ≡ y → ⊥) k vs (all-left (λ y. id ≡ y → ⊥) vs ps a) m) ∙ w .1)) (c .evicted));
         placed =
             rw e
             (all-snoc
@@ -79,7 +80,8 @@ module _ (s : Setting) (clock : Float) (jobs : List Job) where
             other k (λ z. n (sym z)) ∙ c .others k h (g .0);
       }
 
-  clear-changes : (p : Pass) (id : ℕ) (vs : List ℕ) → Standing p → All (MayLeave s clock p id) vs → Distinct vs → Changes clock jobs p → Changes clock jobs (cleared clock p id vs)
+  clear-changes : (p : Pass) (id : ℕ) (vs : List ℕ) → Standing p → All (MayLeave s clock p id) vs → Distinct vs → Changes clock jobs p →
+      Changes clock jobs (cleared clock p id vs)
   clear-changes p id vs so may once c =
       let ws : List ℕ = victimsOf (p .line) in
       let ps : List ℕ = placedOf p in
@@ -91,7 +93,8 @@ module _ (s : Setting) (clock : Float) (jobs : List Job) where
       let waiting : All (λ x. Apart x vs) ws = states-apart waitsIn Waiting Running (p .jobs) ws vs refl refl (so .victims-wait) run in
       let placed : All (λ x. Apart x vs) ps = states-apart Usage.placed Placed Running (p .jobs) ps vs refl refl (so .placed-are) run in
       let same : (k : ℕ) → has k vs ≡ true → jobAt p k ≡ getD jobs k noJob =
-      λ k m. c .others k (apart-from vs ws k (states-apart runs Running Waiting (p .jobs) vs ws refl refl run (so .victims-wait)) m) (apart-from vs ps k (states-apart runs Running Placed (p .jobs) vs ps refl refl run (so .placed-are)) m) in
+      λ k m. c .others k (apart-from vs ws k (states-apart runs Running Waiting (p .jobs) vs ws refl refl run (so .victims-wait)) m)
+      (apart-from vs ps k (states-apart runs Running Placed (p .jobs) vs ps refl refl run (so .placed-are)) m) in
       record {
         evicted =
             rw e

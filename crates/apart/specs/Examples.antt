@@ -32,7 +32,23 @@ use Rattle.preemptive.specs.declared.prefix.Preempted.{Preempted}
 abbrev asks : ℕ → ℕ → ℕ → JobState → Job
 asks priority count evictions state =
     record {
-      ask = record { arrival = zero·0; duration = one·0; priority = priority; count = count; memory = zero·0; kind = 0; site = 0; tenant = 0; gang = false; nodes = 0; network = false; timeout = zero·0; profile = 0; slices = 0 };
+      ask = record {
+        arrival = zero·0;
+        duration = one·0;
+        priority = priority;
+        count = count;
+        memory = zero·0;
+        kind = 0;
+        site = 0;
+        tenant = 0;
+        gang =
+            false;
+        nodes = 0;
+        network = false;
+        timeout = zero·0;
+        profile = 0;
+        slices = 0;
+      };
       state = state;
       since = zero·0;
       start = zero·0;
@@ -75,8 +91,12 @@ abbrev pub Outcomes : Type 0
 Outcomes = List (List ℕ) × List Gpu × List Job
 
 abbrev pub results : Outcomes
-results =
-    (candidates house (table 0 (wants 3)) (wants 3 .ask) ∷ victims (done 0 3) ∷ victims (done 0 2) ∷ victims (done 0 5) ∷ candidates house (table 3 (wants 3)) (wants 3 .ask) ∷ [], done 0 5 .gpus, done 0 5 .jobs)
+results = (
+  candidates house (table 0 (wants 3)) (wants 3 .ask) ∷ victims (done 0 3) ∷ victims (done 0 2) ∷ victims (done 0 5) ∷ candidates house
+      (table 3 (wants 3)) (wants 3 .ask) ∷ [],
+  done 0 5 .gpus,
+  done 0 5 .jobs,
+)
 
 -- E: wanting 3 evicts 0 and 1. F: wanting 2: still 0 and 1. G: wanting 5: none; all as before. H: a job evicted 3 times is no candidate.
 abbrev pub expected : Outcomes
@@ -84,5 +104,6 @@ expected =
     ((0 ∷ 1 ∷ 2 ∷ []) ∷ (0 ∷ 1 ∷ []) ∷ (0 ∷ 1 ∷ []) ∷ [] ∷ (1 ∷ 2 ∷ []) ∷ [], cards, table 0 (wants 5))
 
 pub examples : results ≡ expected
-unfolding candidates candidatesByNumber those candidate sort insert preempted made shortest first freedAll evictedAll freed placeable firstCause withinQuota usage sumOver chargeTo chargeOf holding resourceCause whyNotHere whyNot eligibles eligible eq ofBits pad
+unfolding candidates candidatesByNumber those candidate sort insert preempted made shortest first freedAll evictedAll freed placeable firstCause
+    withinQuota usage sumOver chargeTo chargeOf holding resourceCause whyNotHere whyNot eligibles eligible eq ofBits pad
 examples = refl

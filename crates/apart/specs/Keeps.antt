@@ -64,8 +64,11 @@ module _ (s : Setting) (clock : Float) (P : Pass → Type 0) (kept : Kept s cloc
   Both p = Standing p × P p
 
   place-keeps : (p : Pass) (id : ℕ) → Looked p id → allocation s p id (jobAt p id) .placed ≡ true → Both p → Both (placing s p id)
-  place-keeps p id l t b =
-      (place-standing p (b .0) id l (jobAt p id) (allocation s p id (jobAt p id)) (allocated-length s (p .gpus) (p .jobs) (jobAt p id) (plusOne id) ∙ b .0 .gpus), kept .place p id (b .0) l t (b .1))
+  place-keeps p id l t b = (
+    place-standing p (b .0) id l (jobAt p id) (allocation s p id (jobAt p id))
+        (allocated-length s (p .gpus) (p .jobs) (jobAt p id) (plusOne id) ∙ b .0 .gpus),
+    kept .place p id (b .0) l t (b .1),
+  )
 
   settle-keeps : (p : Pass) (id : ℕ) (j : Job) → jobAt p id ≡ j → Looked p id → Both p → Both (settled s p id j)
   unfolding settled
@@ -78,7 +81,8 @@ module _ (s : Setting) (clock : Float) (P : Pass → Type 0) (kept : Kept s cloc
       let vs : List ℕ = leaving s clock p id in
       let may : All (MayLeave s clock p id) vs = leaving-may s clock p id in
       let once : Distinct vs = leaving-once s clock p id in
-      let after : (jobAt (cleared clock p id vs) id ≡ jobAt p id) × Looked (cleared clock p id vs) id = clear-looked clock p (b .0) id vs (may-run s clock p id vs may) once l in
+      let after : (jobAt (cleared clock p id vs) id ≡ jobAt p id) × Looked (cleared clock p id vs) id =
+      clear-looked clock p (b .0) id vs (may-run s clock p id vs may) once l in
       rw (way-cleared s clock p id)
       (settle-keeps
       (cleared clock p id vs)
@@ -91,7 +95,8 @@ module _ (s : Setting) (clock : Float) (P : Pass → Type 0) (kept : Kept s cloc
   preempt-keeps : (p : Pass) (id : ℕ) → Looked p id → Both p → Both (preempting s clock p id (jobAt p id))
   unfolding preempting
   preempt-keeps p id l b =
-      pick-cases Both (eqb (preemption s clock p id .count) 0) p (settled s (madeWay clock p id (preemption s clock p id)) id (jobAt p id)) (λ t. b) (λ f. clear-keeps p id l b)
+      pick-cases Both (eqb (preemption s clock p id .count) 0) p (settled s (madeWay clock p id (preemption s clock p id)) id (jobAt p id)) (λ t. b)
+      (λ f. clear-keeps p id l b)
 
   consider-keeps : (p : Pass) (id : ℕ) → Looked p id → Both p → Both (considered s clock p id (jobAt p id))
   unfolding considered

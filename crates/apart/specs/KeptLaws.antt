@@ -33,7 +33,9 @@ cleared-ask : (clock : Float) (p : Pass) (id : ℕ) (vs : List ℕ) (k : ℕ) �
 unfolding cleared
 cleared-ask clock p id vs k = evicted-ask clock (p .jobs) vs k
 
-module _ (s : Setting) (clock : Float) (P : Pass → Type 0) (place : (p : Pass) (id : ℕ) (j : Job) → j .ask ≡ jobAt p id .ask → P p → P (placedAs p id j (allocation s p id j))) (clear : (p : Pass) (id : ℕ) (vs : List ℕ) → P p → P (cleared clock p id vs)) where
+module _ (s : Setting) (clock : Float) (P : Pass → Type 0)
+    (place : (p : Pass) (id : ℕ) (j : Job) → j .ask ≡ jobAt p id .ask → P p → P (placedAs p id j (allocation s p id j)))
+    (clear : (p : Pass) (id : ℕ) (vs : List ℕ) → P p → P (cleared clock p id vs)) where
   settle-any : (p : Pass) (id : ℕ) (j : Job) → j .ask ≡ jobAt p id .ask → P p → P (settled s p id j)
   unfolding settled
   settle-any p id j e h = pick-either P (allocation s p id j .placed) (placedAs p id j (allocation s p id j)) p (place p id j e h) h

@@ -19,7 +19,7 @@ use Rattle.mig.specs.Table.{firstIdle, givenInOrder}
 use Rattle.mig.specs.TableLaws.{order-length}
 use Rattle.mig.specs.Allocate.{slicesAllocated, cutFor, newSlices, freeElsewhere, enoughFree, cutHelps}
 use Rattle.mig.specs.declared.allocate.Slices.{Slices}
-use Rattle.cluster.specs.Order.{sortedFront}
+use Rattle.order.specs.Order.{sortedFront}
 use Rattle.cluster.specs.Queue.{before, sortedQueue}
 use Rattle.cluster.specs.GpusLaws.{given-length}
 use Rattle.eligible.specs.Chosen.{listOf}
@@ -46,7 +46,9 @@ ordered-length gpus n profile want owner except = order-length profile owner exc
 cut-length : (gpus : List Gpu) (n profile want owner : ℕ) → length (cutFor gpus n profile want owner) ≡ length gpus
 unfolding cutFor
 cut-length gpus n profile want owner =
-    length-set (givenInOrder gpus n profile want owner (firstIdle gpus n)) (firstIdle gpus n) (newSlices (getD gpus (firstIdle gpus n) noGpu) profile want (freeElsewhere gpus n profile (firstIdle gpus n)) owner) ∙ ordered-length gpus n profile want owner (firstIdle gpus n)
+    length-set (givenInOrder gpus n profile want owner (firstIdle gpus n)) (firstIdle gpus n)
+    (newSlices (getD gpus (firstIdle gpus n) noGpu) profile want (freeElsewhere gpus n profile (firstIdle gpus n)) owner)
+    ∙ ordered-length gpus n profile want owner (firstIdle gpus n)
 
 slices-length : (gpus : List Gpu) (n profile most want owner : ℕ) → length (slicesAllocated gpus n profile most want owner .gpus) ≡ length gpus
 unfolding slicesAllocated

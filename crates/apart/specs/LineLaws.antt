@@ -100,7 +100,8 @@ module _ (clock : Float) (by : ℕ) (line : Line) (v : ℕ) (remaining : Float) 
 
 module _ (clock : Float) (jobs : List Job) (by : ℕ) where
   -- what each join keeps, all keep
-  pub joins-keep : (P : Line → Type 0) → ((line : Line) (v : ℕ) (remaining : Float) → P line → P (joined clock by line v remaining)) → (line : Line) (vs : List ℕ) → P line → P (joinedAll clock jobs by line vs)
+  pub joins-keep : (P : Line → Type 0) → ((line : Line) (v : ℕ) (remaining : Float) → P line → P (joined clock by line v remaining)) →
+      (line : Line) (vs : List ℕ) → P line → P (joinedAll clock jobs by line vs)
   unfolding joinedAll
   joins-keep P k line [] h = h
   joins-keep P k line (v ∷ vs) h = joins-keep P k (joined clock by line v (getD jobs v noJob .remaining)) vs (k line v (getD jobs v noJob .remaining) h)
@@ -141,7 +142,8 @@ module _ (clock : Float) (jobs : List Job) (by : ℕ) where
   joins-victims line (v ∷ vs) s h =
       let next : Line = joined clock by line v (getD jobs v noJob .remaining) in
       let e : next .evicted ≡ line .evicted + 1 = joined-evicted clock by line v (getD jobs v noJob .remaining) (omega arith) in
-      joins-victims next vs (joined-sized clock by line v (getD jobs v noJob .remaining) s) (omega arith) ∙ ap (λ (l : List ℕ). l ++ vs) (joined-victims clock by line v (getD jobs v noJob .remaining) s (omega arith)) ∙ append-assoc (victimsOf line) (v ∷ []) vs
+      joins-victims next vs (joined-sized clock by line v (getD jobs v noJob .remaining) s) (omega arith)
+      ∙ ap (λ (l : List ℕ). l ++ vs) (joined-victims clock by line v (getD jobs v noJob .remaining) s (omega arith)) ∙ append-assoc (victimsOf line) (v ∷ []) vs
 
   -- at the queue's end, in their order
   pub joins-queue : (line : Line) (vs : List ℕ) → Sized line → line .waiting + length vs ≤ 128 → queueOf (joinedAll clock jobs by line vs) ≡ queueOf line ++ vs
@@ -150,19 +152,25 @@ module _ (clock : Float) (jobs : List Job) (by : ℕ) where
   joins-queue line (v ∷ vs) s h =
       let next : Line = joined clock by line v (getD jobs v noJob .remaining) in
       let e : next .waiting ≡ line .waiting + 1 = joined-waiting clock by line v (getD jobs v noJob .remaining) (omega arith) in
-      joins-queue next vs (joined-sized clock by line v (getD jobs v noJob .remaining) s) (omega arith) ∙ ap (λ (l : List ℕ). l ++ vs) (joined-queue clock by line v (getD jobs v noJob .remaining) s (omega arith)) ∙ append-assoc (queueOf line) (v ∷ []) vs
+      joins-queue next vs (joined-sized clock by line v (getD jobs v noJob .remaining) s) (omega arith)
+      ∙ ap (λ (l : List ℕ). l ++ vs) (joined-queue clock by line v (getD jobs v noJob .remaining) s (omega arith)) ∙ append-assoc (queueOf line) (v ∷ []) vs
 
   -- and their decisions behind those before them
-  pub joins-decisions : (line : Line) (vs : List ℕ) → Sized line → line .log .count + length vs ≤ 129 → decisions (joinedAll clock jobs by line vs .log) ≡ decisions (line .log) ++ map (evictionTold clock by) vs
+  pub joins-decisions : (line : Line) (vs : List ℕ) → Sized line → line .log .count + length vs ≤ 129 →
+      decisions (joinedAll clock jobs by line vs .log) ≡ decisions (line .log) ++ map (evictionTold clock by) vs
   unfolding joinedAll
   joins-decisions line [] s h = sym (append-nil (decisions (line .log)))
   joins-decisions line (v ∷ vs) s h =
       let next : Line = joined clock by line v (getD jobs v noJob .remaining) in
       let e : next .log .count ≡ line .log .count + 1 = joined-count clock by line v (getD jobs v noJob .remaining) (omega arith) in
-      joins-decisions next vs (joined-sized clock by line v (getD jobs v noJob .remaining) s) (omega arith) ∙ ap (λ (l : List Decision). l ++ map (evictionTold clock by) vs) (joined-decisions clock by line v (getD jobs v noJob .remaining) s (omega arith)) ∙ append-assoc (decisions (line .log)) (evictionTold clock by v ∷ []) (map (evictionTold clock by) vs)
+      joins-decisions next vs (joined-sized clock by line v (getD jobs v noJob .remaining) s) (omega arith)
+      ∙ ap (λ (l : List Decision). l ++ map (evictionTold clock by) vs)
+      (joined-decisions clock by line v (getD jobs v noJob .remaining) s (omega arith))
+      ∙ append-assoc (decisions (line .log)) (evictionTold clock by v ∷ []) (map (evictionTold clock by) vs)
 
   -- all is permitted after only if it was before and what remains of each is
-  pub joins-ok : (line : Line) (vs : List ℕ) → joinedAll clock jobs by line vs .ok ≡ true → (line .ok ≡ true) × All (λ v. permitted (getD jobs v noJob .remaining) ≡ true) vs
+  pub joins-ok : (line : Line) (vs : List ℕ) → joinedAll clock jobs by line vs .ok ≡ true →
+      (line .ok ≡ true) × All (λ v. permitted (getD jobs v noJob .remaining) ≡ true) vs
   unfolding joinedAll
   joins-ok line [] h = (h, tt)
   joins-ok line (v ∷ vs) h =

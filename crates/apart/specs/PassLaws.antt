@@ -22,7 +22,8 @@ use Rattle.apart.specs.Told.{Told, told-kept}
 use Rattle.apart.specs.KeptLaws.{Asks, walk-asks}
 use Rattle.pass.specs.declared.visit.Pass.{Pass}
 
-module _ (s : Setting) (clock : Float) (gpus : List Gpu) (jobs : List Job) (line : Line) (gpus-size : length gpus ≡ 128) (jobs-size : length jobs ≡ 128) (line-size : Sized line) (begins : line .evicted ≡ 0) where
+module _ (s : Setting) (clock : Float) (gpus : List Gpu) (jobs : List Job) (line : Line) (gpus-size : length gpus ≡ 128)
+    (jobs-size : length jobs ≡ 128) (line-size : Sized line) (begins : line .evicted ≡ 0) where
   nobody : victimsOf line ≡ []
   nobody = rw begins
 

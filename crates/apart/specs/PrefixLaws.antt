@@ -2,8 +2,8 @@
 use mathlib.Core.Path.{_≡_, refl, sym, ap, _∙_}
 use mathlib.Core.Logic.{⊎-elim}
 use mathlib.Core.Bool.{Bool, true, false}
-use mathlib.Core.List.{List, [], _∷_, _++_, map}
-use Prim.Native.Nat.{ℕ, _+_, _-_, _<_, _≤_}
+use mathlib.Core.List.{List, [], _∷_, map}
+use Prim.Native.Nat.{ℕ, _-_, _<_, _≤_}
 use native.Mathlib.Omega.{arith}
 use lib.Dec.{eqb, leb}
 use lib.ListN.{length, getD, take, set, replicate, length-set, length-map}
@@ -83,7 +83,8 @@ module _ (s : Setting) (clock : Float) (gpus : List Gpu) (jobs : List Job) (j : 
   preempted-count = shortest-prefix s clock gpus jobs j (candidates s jobs (j .ask))
 
   -- the victims are the first candidates
-  pub preempted-victims : take (preempted s clock gpus jobs j .count) (preempted s clock gpus jobs j .victims) ≡ take (preempted s clock gpus jobs j .count) (candidates s jobs (j .ask))
+  pub preempted-victims : take (preempted s clock gpus jobs j .count) (preempted s clock gpus jobs j .victims) ≡ take
+      (preempted s clock gpus jobs j .count) (candidates s jobs (j .ask))
   unfolding preempted made pad
   preempted-victims =
       take-append-le
@@ -93,7 +94,9 @@ module _ (s : Setting) (clock : Float) (gpus : List Gpu) (jobs : List Job) (j : 
       (preempted-count .within)
 
   -- the tables are those after the victims left
-  pub preempted-tables : (preempted s clock gpus jobs j .gpus ≡ freedAll gpus (take (preempted s clock gpus jobs j .count) (candidates s jobs (j .ask)))) × (preempted s clock gpus jobs j .jobs ≡ evictedAll clock jobs (take (preempted s clock gpus jobs j .count) (candidates s jobs (j .ask))))
+  pub preempted-tables : (preempted s clock gpus jobs j .gpus ≡ freedAll gpus
+      (take (preempted s clock gpus jobs j .count) (candidates s jobs (j .ask)))) ×
+      (preempted s clock gpus jobs j .jobs ≡ evictedAll clock jobs (take (preempted s clock gpus jobs j .count) (candidates s jobs (j .ask))))
   unfolding preempted made
   preempted-tables = (refl, refl)
 
@@ -104,7 +107,8 @@ module _ (s : Setting) (clock : Float) (gpus : List Gpu) (jobs : List Job) (j : 
       (distinct-take (preempted s clock gpus jobs j .count) (candidates s jobs (j .ask)) (candidates-distinct s jobs (j .ask)))
 
   -- each is a loaded job that makes way
-  pub victims-in : (i : ℕ) → has i (take (preempted s clock gpus jobs j .count) (preempted s clock gpus jobs j .victims)) ≡ true → (i < 128) × (i < s .jobs) × MakesWay (s .options .aware) (j .ask) (getD jobs i noJob)
+  pub victims-in : (i : ℕ) → has i (take (preempted s clock gpus jobs j .count) (preempted s clock gpus jobs j .victims)) ≡ true →
+      (i < 128) × (i < s .jobs) × MakesWay (s .options .aware) (j .ask) (getD jobs i noJob)
   victims-in i h =
       candidates-in s jobs (j .ask) i (has-take i (preempted s clock gpus jobs j .count) (candidates s jobs (j .ask)) (rw preempted-victims at h))
 
@@ -154,13 +158,15 @@ module _ (clock : Float) where
   evicted-other jobs [] i h = refl
   evicted-other jobs (v ∷ vs) i h =
       let r : (eqb i v ≡ false) × (has i vs ≡ false) = or-none (eqb i v) (has i vs) h in
-      evicted-other (set jobs v (evicted (getD jobs v noJob) clock)) vs i (r .1) ∙ getD-set-other jobs v i (evicted (getD jobs v noJob) clock) noJob (eqb-false i v (r .0))
+      evicted-other (set jobs v (evicted (getD jobs v noJob) clock)) vs i (r .1)
+      ∙ getD-set-other jobs v i (evicted (getD jobs v noJob) clock) noJob (eqb-false i v (r .0))
 
   apart-has : (i : ℕ) (l : List ℕ) → Apart i l → has i l ≡ false
   apart-has i l h = fails (has i l) (λ e. has-all (λ y. i ≡ y → ⊥) i l h e refl)
 
   -- each of them is evicted, once
-  pub evicted-in : (jobs : List Job) (vs : List ℕ) (i : ℕ) → Distinct vs → i < length jobs → has i vs ≡ true → getD (evictedAll clock jobs vs) i noJob ≡ evicted (getD jobs i noJob) clock
+  pub evicted-in : (jobs : List Job) (vs : List ℕ) (i : ℕ) → Distinct vs → i < length jobs → has i vs ≡ true →
+      getD (evictedAll clock jobs vs) i noJob ≡ evicted (getD jobs i noJob) clock
   unfolding evictedAll
   evicted-in jobs [] i d h e = absurd (never-both e refl)
   evicted-in jobs (v ∷ vs) i d h e =
@@ -169,11 +175,13 @@ module _ (clock : Float) where
       (λ q. let q : i ≡ v = q in
       rw q
       (evicted-other (set jobs v new) vs v (apart-has v vs (d .0)) ∙ getD-set-same jobs v new noJob (rw q at h)))
-      (λ q. evicted-in (set jobs v new) vs i (d .1) (rw (length-set jobs v new) h) q ∙ ap (λ (w : Job). evicted w clock) (getD-set-other jobs v i new noJob (λ a. has-all (λ y. v ≡ y → ⊥) i vs (d .0) q (sym a))))
+      (λ q. evicted-in (set jobs v new) vs i (d .1) (rw (length-set jobs v new) h) q
+      ∙ ap (λ (w : Job). evicted w clock) (getD-set-other jobs v i new noJob (λ a. has-all (λ y. v ≡ y → ⊥) i vs (d .0) q (sym a))))
       (has-cases i v vs e)
 
   -- what an eviction keeps of a job is kept of each
-  pub evicted-kept : {B : Type 0} (g : Job → B) → ((v : Job) → g (evicted v clock) ≡ g v) → (jobs : List Job) (vs : List ℕ) (i : ℕ) → g (getD (evictedAll clock jobs vs) i noJob) ≡ g (getD jobs i noJob)
+  pub evicted-kept : {B : Type 0} (g : Job → B) → ((v : Job) → g (evicted v clock) ≡ g v) → (jobs : List Job) (vs : List ℕ) (i : ℕ) →
+      g (getD (evictedAll clock jobs vs) i noJob) ≡ g (getD jobs i noJob)
   unfolding evictedAll
   evicted-kept g f jobs [] i = refl
   evicted-kept g f jobs (v ∷ vs) i =

@@ -79,7 +79,8 @@ told-apart : (test : JobState → Bool) (a b : JobState) → test a ≡ true →
 told-apart test a b t f e = never-both (rw (← e) t) f
 
 -- lists of jobs in states that a test tells apart share nothing
-pub states-apart : (test : JobState → Bool) (a b : JobState) (jobs : List Job) (l r : List ℕ) → test a ≡ true → test b ≡ false → All (InState a jobs) l → All (InState b jobs) r → All (λ x. Apart x r) l
+pub states-apart : (test : JobState → Bool) (a b : JobState) (jobs : List Job) (l r : List ℕ) → test a ≡ true → test b ≡ false →
+    All (InState a jobs) l → All (InState b jobs) r → All (λ x. Apart x r) l
 states-apart test a b jobs l r t f h k =
     all-weaken
     (InState a jobs)
@@ -169,7 +170,8 @@ module _ (p : Pass) (so : Standing p) (id : ℕ) (looked : Looked p id) where
   place-line j got = refl
 
   -- jobs in a state keep it
-  place-keeps : (j : Job) (got : Allocation) (state : JobState) (l : List ℕ) → Apart id l → All (InState state (p .jobs)) l → All (InState state (placedAs p id j got .jobs)) l
+  place-keeps : (j : Job) (got : Allocation) (state : JobState) (l : List ℕ) → Apart id l → All (InState state (p .jobs)) l →
+      All (InState state (placedAs p id j got .jobs)) l
   place-keeps j got state l a h =
       all-weaken
       (λ k. (id ≡ k → ⊥) × InState state (p .jobs) k)
@@ -190,7 +192,8 @@ module _ (p : Pass) (so : Standing p) (id : ℕ) (looked : Looked p id) where
         line = so .line;
         placed = length-set (p .placed) (p .count) (record { job = id; cut = got .cut; penalised = got .penalised }) ∙ so .placed;
         victims-wait = place-keeps j got Waiting vs (all-left (λ y. id ≡ y → ⊥) vs ps looked-apart) (so .victims-wait);
-        placed-are = rw e (all-snoc (InState Placed (placedAs p id j got .jobs)) ps id (place-keeps j got Placed ps (all-right (λ y. id ≡ y → ⊥) vs ps looked-apart) (so .placed-are)) (looked-in, ap (λ (x : Job). x .state) (place-it j got)));
+        placed-are = rw e (all-snoc (InState Placed (placedAs p id j got .jobs)) ps id
+            (place-keeps j got Placed ps (all-right (λ y. id ≡ y → ⊥) vs ps looked-apart) (so .placed-are)) (looked-in, ap (λ (x : Job). x .state) (place-it j got)));
         once = rw (e, ← append-assoc vs ps (id ∷ [])) (distinct-snoc (vs ++ ps) id (so .once) looked-apart);
         evicted = so .evicted;
         count = rw (e, place-count j got, length-append ps (id ∷ [])) (omega (arith, so .count));
@@ -295,6 +298,13 @@ module _ (clock : Float) (p : Pass) (so : Standing p) (id : ℕ) (vs : List ℕ)
   -- the job for which they left is as it was, and still no victim
   pub clear-looked : Looked p id → (jobAt (cleared clock p id vs) id ≡ jobAt p id) × Looked (cleared clock p id vs) id
   clear-looked looked =
-      let h : has id vs ≡ false = apart-has id vs (states-apart waitsIn Waiting Running (p .jobs) (id ∷ []) vs refl refl ((waiting-in (p .jobs) id (so .jobs) (looked .waiting), looked .waiting), tt) run .0) in
-      let e : jobAt (cleared clock p id vs) id ≡ jobAt p id = clear-other id h in
-      (e, record { waiting = rw e (looked .waiting); spared = rw (clear-behind, has-append id (victimsOf (p .line)) vs) (none-or (has id (victimsOf (p .line))) (has id vs) (looked .spared) h) })
+      let h : has id vs ≡ false = apart-has id vs
+      (states-apart waitsIn Waiting Running (p .jobs) (id ∷ []) vs refl refl ((waiting-in (p .jobs) id (so .jobs) (looked .waiting), looked .waiting), tt) run .0) in
+      let e : jobAt (cleared clock p id vs) id ≡ jobAt p id = clear-other id h in (
+        e,
+        record {
+          waiting = rw e (looked .waiting);
+          spared =
+              rw (clear-behind, has-append id (victimsOf (p .line)) vs) (none-or (has id (victimsOf (p .line))) (has id vs) (looked .spared) h);
+        },
+      )

@@ -65,7 +65,8 @@ timeout-ok a id j from = pick-either (λ x. x .ok ≡ true → a .ok ≡ true) (
 
 module _ (clock : Float) (jobs : List Job) where
   -- what each victim's timeout keeps, all keep
-  pub timeouts-keep : (P : Ahead → Type 0) → ((a : Ahead) (v : ℕ) → P a → P (victimQueued clock jobs a v)) → (a : Ahead) (victims : List ℕ) → P a → P (timeoutsQueued clock jobs a victims)
+  pub timeouts-keep : (P : Ahead → Type 0) → ((a : Ahead) (v : ℕ) → P a → P (victimQueued clock jobs a v)) → (a : Ahead) (victims : List ℕ) → P a →
+      P (timeoutsQueued clock jobs a victims)
   timeouts-keep P k a victims h = rw (timeouts-folded clock jobs a victims) (folded-keeps (victimQueued clock jobs) P k a victims h)
 
   -- as many entries as before
@@ -92,7 +93,15 @@ startOf options clock b p = Life.startAt (jobOf b p) clock options (p .cut)
 
 -- its completion: the next insertion number, the run generation raised by one
 abbrev pub completionOf : Options → Float → Begun → Placing → Event
-completionOf options clock b p = record { time = Life.completionAt (jobOf b p) (startOf options clock b p) (Life.multiplierOf options (p .penalised)); number = b .ahead .next; kind = Completion; job = p .job; generation = (jobOf b p .run + 1) % 2 ^ 32 }
+completionOf options clock b p = record {
+  time =
+      Life.completionAt (jobOf b p) (startOf options clock b p) (Life.multiplierOf options (p .penalised));
+  number = b .ahead .next;
+  kind =
+      Completion;
+  job = p .job;
+  generation = (jobOf b p .run + 1) % 2 ^ 32;
+}
 
 -- the decision that tells it
 abbrev pub startTold : Options → Float → Begun → Placing → Decision
@@ -115,7 +124,8 @@ module _ (options : Options) (clock : Float) (b : Begun) (p : Placing) where
   begun-length = length-set (b .jobs) (p .job) (Life.started (jobOf b p) (startOf options clock b p))
 
   -- what a start keeps of the job it keeps of each
-  pub begun-kept : {B : Type 0} (g : Job → B) → ((j : Job) (at : Float) → g (Life.started j at) ≡ g j) → (k : ℕ) → g (getD (begun options clock b p .jobs) k noJob) ≡ g (getD (b .jobs) k noJob)
+  pub begun-kept : {B : Type 0} (g : Job → B) → ((j : Job) (at : Float) → g (Life.started j at) ≡ g j) → (k : ℕ) →
+      g (getD (begun options clock b p .jobs) k noJob) ≡ g (getD (b .jobs) k noJob)
   unfolding begun
   begun-kept g e k = set-kept (b .jobs) (p .job) (Life.started (jobOf b p) (startOf options clock b p)) noJob g (e (jobOf b p) (startOf options clock b p)) k
 
@@ -158,7 +168,8 @@ module _ (options : Options) (clock : Float) (b : Begun) (p : Placing) where
   begun-table = refl
 
   -- with room left behind the decisions before it
-  pub begun-decisions : length (b .log .table) ≡ most → b .log .count < most → decisions (begun options clock b p .log) ≡ decisions (b .log) ++ (startTold options clock b p ∷ [])
+  pub begun-decisions : length (b .log .table) ≡ most → b .log .count < most →
+      decisions (begun options clock b p .log) ≡ decisions (b .log) ++ (startTold options clock b p ∷ [])
   begun-decisions e h = rw begun-log (told-behind (b .log) (bitsOf (startOf options clock b p)) Started (p .job) (amount (jobOf b p .ask)) e h)
 
   -- the time that is told is the start that the job stores
@@ -189,7 +200,9 @@ module _ (options : Options) (clock : Float) (b : Begun) (p : Placing) where
   begun-totals = refl
 
   -- all is permitted after only if it was before, and the start's own numbers are
-  pub begun-permitted : begun options clock b p .ahead .ok ≡ true → (b .ahead .ok ≡ true) × (permitted (completionOf options clock b p .time) ≡ true) × (permitted (startOf options clock b p) ≡ true) × (permitted (Life.started (jobOf b p) (startOf options clock b p) .waited) ≡ true) × (permitted (begun options clock b p .totals .added) ≡ true)
+  pub begun-permitted : begun options clock b p .ahead .ok ≡ true →
+      (b .ahead .ok ≡ true) × (permitted (completionOf options clock b p .time) ≡ true) × (permitted (startOf options clock b p) ≡ true) ×
+      (permitted (Life.started (jobOf b p) (startOf options clock b p) .waited) ≡ true) × (permitted (begun options clock b p .totals .added) ≡ true)
   unfolding begun queued
   begun-permitted h =
       let o = and-both _ _ h in
@@ -217,11 +230,13 @@ startsTold options clock b (p ∷ ps) = startTold options clock b p ∷ startsTo
 
 module _ (options : Options) (clock : Float) where
   -- what each start keeps, all keep
-  pub all-keep : (P : Begun → Type 0) → ((b : Begun) (p : Placing) → P b → P (begun options clock b p)) → (b : Begun) (placed : List Placing) → P b → P (begunAll options clock b placed)
+  pub all-keep : (P : Begun → Type 0) → ((b : Begun) (p : Placing) → P b → P (begun options clock b p)) → (b : Begun) (placed : List Placing) → P b →
+      P (begunAll options clock b placed)
   all-keep P k b placed h = rw (begun-folded options clock b placed) (folded-keeps (begun options clock) P k b placed h)
 
   -- the same where only placings with a property keep it
-  pub all-among : (P : Begun → Type 0) (Q : Placing → Type 0) → ((b : Begun) (p : Placing) → Q p → P b → P (begun options clock b p)) → (b : Begun) (placed : List Placing) → All Q placed → P b → P (begunAll options clock b placed)
+  pub all-among : (P : Begun → Type 0) (Q : Placing → Type 0) → ((b : Begun) (p : Placing) → Q p → P b → P (begun options clock b p)) →
+      (b : Begun) (placed : List Placing) → All Q placed → P b → P (begunAll options clock b placed)
   all-among P Q k b placed q h = rw (begun-folded options clock b placed) (folded-among (begun options clock) P Q k b placed q h)
 
   -- as many jobs as before
@@ -234,19 +249,26 @@ module _ (options : Options) (clock : Float) where
 
   -- no start evicts
   pub all-evictions : (b : Begun) (placed : List Placing) (k : ℕ) → getD (begunAll options clock b placed .jobs) k noJob .evictions ≡ getD (b .jobs) k noJob .evictions
-  all-evictions b placed k = all-keep (λ x. getD (x .jobs) k noJob .evictions ≡ getD (b .jobs) k noJob .evictions) (λ x p e. begun-evictions options clock x p k ∙ e) b placed refl
+  all-evictions b placed k = all-keep (λ x. getD (x .jobs) k noJob .evictions ≡ getD (b .jobs) k noJob .evictions)
+      (λ x p e. begun-evictions options clock x p k ∙ e) b placed refl
 
   -- a job that was not placed stays as it is
   pub all-other : (b : Begun) (placed : List Placing) (k : ℕ) → Apart k (jobsOf placed) → getD (begunAll options clock b placed .jobs) k noJob ≡ getD (b .jobs) k noJob
-  all-other b placed k h = all-among (λ x. getD (x .jobs) k noJob ≡ getD (b .jobs) k noJob) (λ p. k ≡ p .job → ⊥) (λ x p a e. begun-other options clock x p k a ∙ e) b placed (all-unmap (λ i. k ≡ i → ⊥) (λ p. p .job) placed h) refl
+  all-other b placed k h = all-among (λ x. getD (x .jobs) k noJob ≡ getD (b .jobs) k noJob) (λ p. k ≡ p .job → ⊥)
+      (λ x p a e. begun-other options clock x p k a ∙ e) b placed (all-unmap (λ i. k ≡ i → ⊥) (λ p. p .job) placed h) refl
 
   -- the later placings of a list without repeats see the jobs as they were
-  later : (b : Begun) (p : Placing) (ps : List Placing) (i : ℕ) → i < length ps → Apart (p .job) (jobsOf ps) → jobOf (begun options clock b p) (getD ps i noPlacing) ≡ jobOf b (getD ps i noPlacing)
+  later : (b : Begun) (p : Placing) (ps : List Placing) (i : ℕ) → i < length ps → Apart (p .job) (jobsOf ps) →
+      jobOf (begun options clock b p) (getD ps i noPlacing) ≡ jobOf b (getD ps i noPlacing)
   later b p ps i h d =
-      begun-other options clock b p (getD ps i noPlacing .job) (λ e. all-at (λ x. p .job ≡ x .job → ⊥) ps i noPlacing (all-unmap (λ x. p .job ≡ x → ⊥) (λ x. x .job) ps d) h (sym e))
+      begun-other options clock b p (getD ps i noPlacing .job)
+      (λ e. all-at (λ x. p .job ≡ x .job → ⊥) ps i noPlacing (all-unmap (λ x. p .job ≡ x → ⊥) (λ x. x .job) ps d) h (sym e))
 
   -- a job placed once has started from what it was
-  pub all-started : (b : Begun) (placed : List Placing) (i : ℕ) → i < length placed → Distinct (jobsOf placed) → getD placed i noPlacing .job < length (b .jobs) → getD (begunAll options clock b placed .jobs) (getD placed i noPlacing .job) noJob ≡ Life.started (jobOf b (getD placed i noPlacing)) (startOf options clock b (getD placed i noPlacing))
+  pub all-started : (b : Begun) (placed : List Placing) (i : ℕ) → i < length placed → Distinct (jobsOf placed) →
+      getD placed i noPlacing .job < length (b .jobs) →
+      getD (begunAll options clock b placed .jobs) (getD placed i noPlacing .job) noJob ≡ Life.started (jobOf b (getD placed i noPlacing))
+      (startOf options clock b (getD placed i noPlacing))
   unfolding begunAll
   all-started b [] i h d r = absurd (omega arith)
   all-started b (p ∷ ps) zero h d r = all-other (begun options clock b p) ps (p .job) (d .0) ∙ begun-started options clock b p r
@@ -254,12 +276,15 @@ module _ (options : Options) (clock : Float) where
       rw (later b p ps i (omega arith) (d .0)) at (all-started (begun options clock b p) ps i (omega arith) (d .1) (rw (begun-length options clock b p) r))
 
   -- it runs
-  pub all-runs : (b : Begun) (placed : List Placing) (i : ℕ) → i < length placed → Distinct (jobsOf placed) → getD placed i noPlacing .job < length (b .jobs) → getD (begunAll options clock b placed .jobs) (getD placed i noPlacing .job) noJob .state ≡ Running
+  pub all-runs : (b : Begun) (placed : List Placing) (i : ℕ) → i < length placed → Distinct (jobsOf placed) →
+      getD placed i noPlacing .job < length (b .jobs) → getD (begunAll options clock b placed .jobs) (getD placed i noPlacing .job) noJob .state ≡ Running
   unfolding Life.started
   all-runs b placed i h d r = ap (λ (j : Job). j .state) (all-started b placed i h d r)
 
   -- one generation on
-  pub all-run : (b : Begun) (placed : List Placing) (i : ℕ) → i < length placed → Distinct (jobsOf placed) → getD placed i noPlacing .job < length (b .jobs) → getD (begunAll options clock b placed .jobs) (getD placed i noPlacing .job) noJob .run ≡ (jobOf b (getD placed i noPlacing) .run + 1) % 2 ^ 32
+  pub all-run : (b : Begun) (placed : List Placing) (i : ℕ) → i < length placed → Distinct (jobsOf placed) →
+      getD placed i noPlacing .job < length (b .jobs) →
+      getD (begunAll options clock b placed .jobs) (getD placed i noPlacing .job) noJob .run ≡ (jobOf b (getD placed i noPlacing) .run + 1) % 2 ^ 32
   unfolding Life.started
   all-run b placed i h d r = ap (λ (j : Job). j .run) (all-started b placed i h d r)
 
@@ -291,13 +316,17 @@ module _ (options : Options) (clock : Float) where
       omega (arith, e, all-count (begun options clock b p) ps (omega (arith, e)))
 
   -- and is told behind the decisions before it, in the order of placing
-  pub all-decisions : (b : Begun) (placed : List Placing) → length (b .log .table) ≡ most → b .log .count + length placed ≤ most → decisions (begunAll options clock b placed .log) ≡ decisions (b .log) ++ startsTold options clock b placed
+  pub all-decisions : (b : Begun) (placed : List Placing) → length (b .log .table) ≡ most → b .log .count + length placed ≤ most →
+      decisions (begunAll options clock b placed .log) ≡ decisions (b .log) ++ startsTold options clock b placed
   unfolding begunAll startsTold
   all-decisions b [] l h = sym (append-nil (decisions (b .log)))
   all-decisions b (p ∷ ps) l h =
       let e : begun options clock b p .log .count ≡ b .log .count + 1 = begun-count options clock b p ∙ onward-room (b .log .count) most (omega arith) in
       let s : length (begun options clock b p .log .table) ≡ most = all-table b (p ∷ []) ∙ l in
-      all-decisions (begun options clock b p) ps s (omega (arith, e)) ∙ ap (λ (r : List Decision). r ++ startsTold options clock (begun options clock b p) ps) (begun-decisions options clock b p l (omega arith)) ∙ append-assoc (decisions (b .log)) (startTold options clock b p ∷ []) (startsTold options clock (begun options clock b p) ps)
+      all-decisions (begun options clock b p) ps s (omega (arith, e))
+      ∙ ap (λ (r : List Decision). r ++ startsTold options clock (begun options clock b p) ps)
+      (begun-decisions options clock b p l (omega arith))
+      ∙ append-assoc (decisions (b .log)) (startTold options clock b p ∷ []) (startsTold options clock (begun options clock b p) ps)
 
   -- as many decisions as starts
   pub told-length : (b : Begun) (placed : List Placing) → length (startsTold options clock b placed) ≡ length placed
@@ -306,7 +335,8 @@ module _ (options : Options) (clock : Float) where
   told-length b (p ∷ ps) = ap suc (told-length (begun options clock b p) ps)
 
   -- each tells the job as it was
-  pub told-at : (b : Begun) (placed : List Placing) (i : ℕ) → i < length placed → Distinct (jobsOf placed) → getD (startsTold options clock b placed) i noDecision ≡ startTold options clock b (getD placed i noPlacing)
+  pub told-at : (b : Begun) (placed : List Placing) (i : ℕ) → i < length placed → Distinct (jobsOf placed) →
+      getD (startsTold options clock b placed) i noDecision ≡ startTold options clock b (getD placed i noPlacing)
   unfolding startsTold
   told-at b [] i h d = absurd (omega arith)
   told-at b (p ∷ ps) zero h d = refl
@@ -314,6 +344,8 @@ module _ (options : Options) (clock : Float) where
       rw (later b p ps i (omega arith) (d .0)) at (told-at (begun options clock b p) ps i (omega arith) (d .1))
 
   -- at the start that the job stores
-  pub told-time : (b : Begun) (placed : List Placing) (i : ℕ) → i < length placed → Distinct (jobsOf placed) → getD placed i noPlacing .job < length (b .jobs) → getD (startsTold options clock b placed) i noDecision .time ≡ bitsOf (getD (begunAll options clock b placed .jobs) (getD placed i noPlacing .job) noJob .start)
+  pub told-time : (b : Begun) (placed : List Placing) (i : ℕ) → i < length placed → Distinct (jobsOf placed) →
+      getD placed i noPlacing .job < length (b .jobs) →
+      getD (startsTold options clock b placed) i noDecision .time ≡ bitsOf (getD (begunAll options clock b placed .jobs) (getD placed i noPlacing .job) noJob .start)
   unfolding Life.started
   told-time b placed i h d r = rw (told-at b placed i h d, all-started b placed i h d r)

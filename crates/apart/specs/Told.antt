@@ -39,7 +39,8 @@ module _ (s : Setting) (clock : Float) (told : List Decision) (n : ℕ) (few : n
   unfolding placedAs
   place-told p id t = record { evictions = t .evictions; all = t .all; jobs = t .jobs; each = t .each; count = t .count }
 
-  clear-told : (p : Pass) (id : ℕ) (vs : List ℕ) → Standing p → All (MayLeave s clock p id) vs → Distinct vs → Told clock told n p → Told clock told n (cleared clock p id vs)
+  clear-told : (p : Pass) (id : ℕ) (vs : List ℕ) → Standing p → All (MayLeave s clock p id) vs → Distinct vs → Told clock told n p →
+      Told clock told n (cleared clock p id vs)
   unfolding cleared
   clear-told p id vs so may once t =
       let run : All (InState Running (p .jobs)) vs = may-run s clock p id vs may in
@@ -55,7 +56,8 @@ module _ (s : Setting) (clock : Float) (told : List Decision) (n : ℕ) (few : n
             (t .evictions)
             new
             (t .each)
-            (all-map (λ d. (d .time ≡ bitsOf clock) × (d .kind ≡ Evicted)) (evictionTold clock id) vs (all-every (λ v. (evictionTold clock id v .time ≡ bitsOf clock) × (evictionTold clock id v .kind ≡ Evicted)) vs (λ v. (refl, refl))));
+            (all-map (λ d. (d .time ≡ bitsOf clock) × (d .kind ≡ Evicted)) (evictionTold clock id) vs
+            (all-every (λ v. (evictionTold clock id v .time ≡ bitsOf clock) × (evictionTold clock id v .kind ≡ Evicted)) vs (λ v. (refl, refl))));
         count = joins-count clock (evictedAll clock (p .jobs) vs) id (p .line) vs room ∙ rw (clear-evicted clock p so id vs run once) (omega (arith, t .count));
       }
 

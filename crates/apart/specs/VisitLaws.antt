@@ -37,7 +37,8 @@ module _ (s : Setting) (clock : Float) (p : Pass) (id : ℕ) where
       (λ f. visit-other f)
 
   -- where no nonempty prefix of the candidates makes it placeable, preempting for it leaves all as it was
-  pub no-prefix : ((m : ℕ) → 0 < m → m ≤ length (candidates s (p .jobs) (jobAt p id .ask)) → opens s clock (p .gpus) (p .jobs) (jobAt p id) (candidates s (p .jobs) (jobAt p id .ask)) m ≡ false) → preemption s clock p id .count ≡ 0
+  pub no-prefix : ((m : ℕ) → 0 < m → m ≤ length (candidates s (p .jobs) (jobAt p id .ask)) →
+      opens s clock (p .gpus) (p .jobs) (jobAt p id) (candidates s (p .jobs) (jobAt p id .ask)) m ≡ false) → preemption s clock p id .count ≡ 0
   no-prefix f =
       ⊎-elim
       (λ z. omega arith)
@@ -49,13 +50,18 @@ module _ (s : Setting) (clock : Float) (p : Pass) (id : ℕ) where
   preempting-nobody z = sym (preempting-none s clock p id (jobAt p id) (preemption s clock p id) refl z)
 
   -- jobs leave only for a job that is placed then
-  pub preempting-places : 0 < preemption s clock p id .count → preempting s clock p id (jobAt p id) ≡ placedAs (cleared clock p id (leaving s clock p id)) id (jobAt p id) (allocation s (cleared clock p id (leaving s clock p id)) id (jobAt p id))
+  pub preempting-places : 0 < preemption s clock p id .count →
+      preempting s clock p id (jobAt p id) ≡ placedAs (cleared clock p id (leaving s clock p id)) id (jobAt p id)
+      (allocation s (cleared clock p id (leaving s clock p id)) id (jobAt p id))
   unfolding madeWay
   preempting-places h =
       let way : Pass = madeWay clock p id (preemption s clock p id) in
-      let t : allocation s way id (jobAt p id) .placed ≡ true = placed-placeable s (way .gpus) (way .jobs) (jobAt p id) (plusOne id) ∙ preempted-opens s clock (p .gpus) (p .jobs) (jobAt p id) h in
+      let t : allocation s way id (jobAt p id) .placed ≡ true = placed-placeable s (way .gpus) (way .jobs) (jobAt p id) (plusOne id)
+      ∙ preempted-opens s clock (p .gpus) (p .jobs) (jobAt p id) h in
       let r : Pass = placedAs way id (jobAt p id) (allocation s way id (jobAt p id)) in
-      let e : r ≡ preempting s clock p id (jobAt p id) = preempting-some s clock p id (jobAt p id) (preemption s clock p id) refl r way (λ z. omega arith) refl (settled-placed s way id (jobAt p id) (allocation s way id (jobAt p id)) refl r t refl) in
+      let e : r ≡ preempting s clock p id (jobAt p id) =
+      preempting-some s clock p id (jobAt p id) (preemption s clock p id) refl r way (λ z. omega arith) refl
+      (settled-placed s way id (jobAt p id) (allocation s way id (jobAt p id)) refl r t refl) in
       sym e ∙ ap (λ (q : Pass). placedAs q id (jobAt p id) (allocation s q id (jobAt p id))) (way-cleared s clock p id)
 
 module _ (s : Setting) (clock : Float) (p : Pass) (id : ℕ) (looked : Looked p id) where
@@ -67,7 +73,8 @@ module _ (s : Setting) (clock : Float) (p : Pass) (id : ℕ) (looked : Looked p 
   visit-places t =
       looks
       (placing s p id)
-      (considered-placed s p id (jobAt p id) (allocation s p id (jobAt p id)) refl clock (placing s p id) (placed-placeable s (p .gpus) (p .jobs) (jobAt p id) (plusOne id) ∙ t) refl)
+      (considered-placed s p id (jobAt p id) (allocation s p id (jobAt p id)) refl clock (placing s p id)
+      (placed-placeable s (p .gpus) (p .jobs) (jobAt p id) (plusOne id) ∙ t) refl)
 
   module _ (full : placeable s (p .gpus) (p .jobs) (jobAt p id) ≡ false) where
     unplaced : allocation s p id (jobAt p id) .placed ≡ false
@@ -88,5 +95,7 @@ module _ (s : Setting) (clock : Float) (p : Pass) (id : ℕ) (looked : Looked p 
     visit-nobody z n = visit-whole z ∙ preempting-nobody s clock p id n
 
     -- one for which a prefix helps is placed when the shortest has left
-    pub visit-preempts : jobAt p id .ask .profile ≡ 0 → 0 < preemption s clock p id .count → visited s clock p id ≡ placedAs (cleared clock p id (leaving s clock p id)) id (jobAt p id) (allocation s (cleared clock p id (leaving s clock p id)) id (jobAt p id))
+    pub visit-preempts : jobAt p id .ask .profile ≡ 0 → 0 < preemption s clock p id .count →
+        visited s clock p id ≡ placedAs (cleared clock p id (leaving s clock p id)) id (jobAt p id)
+        (allocation s (cleared clock p id (leaving s clock p id)) id (jobAt p id))
     visit-preempts z h = visit-whole z ∙ preempting-places s clock p id h

@@ -83,7 +83,8 @@ module _ (nodes groups l : List ℕ) (ask : Ask) (best : Bool) where
       (isGang ask)
       (gangChoice nodes groups l (ask .count / ask .nodes) (ask .nodes))
       (pick (ask .gang || ask .network) (groupChoice groups l (ask .count)) (took (pick best (bestFit nodes l (ask .count)) (firstFit l (ask .count))) false))
-      (λ g. let r : (ask .count % ask .nodes ≡ 0) × (ask .nodes ≤ length (candidates nodes l (ask .count / ask .nodes))) = gang-room nodes l (ask .count) (ask .nodes) (room-gang nodes l ask g h) in
+      (λ g. let r : (ask .count % ask .nodes ≡ 0) × (ask .nodes ≤ length (candidates nodes l (ask .count / ask .nodes))) =
+      gang-room nodes l (ask .count) (ask .nodes) (room-gang nodes l ask g h) in
       gang-right nodes groups l (ask .count / ask .nodes) (ask .nodes) (ask .count) d (r .1) (omega (arith, r .0, div-add-mod' (ask .count) (ask .nodes))))
       (λ g. let n : ask .count ≤ length l = room-others nodes l ask g h in
       pick-cases
@@ -101,7 +102,8 @@ module _ (nodes groups l : List ℕ) (ask : Ask) (best : Bool) where
       (λ b. first-right l (ask .count) false d n)))
 
   -- the penalty of a gang is that of its nodes
-  pub penalty-gang : isGang ask ≡ true → choiceOf nodes groups l ask best .penalised ≡ anyParted nodes groups l (ask .count / ask .nodes) (gangNodes nodes groups l (ask .count / ask .nodes) (ask .nodes))
+  pub penalty-gang : isGang ask ≡ true → choiceOf nodes groups l ask best .penalised ≡ anyParted nodes groups l (ask .count / ask .nodes)
+      (gangNodes nodes groups l (ask .count / ask .nodes) (ask .nodes))
   unfolding choiceOf gangChoice
   penalty-gang g = rw g
 
@@ -119,7 +121,8 @@ module _ (nodes groups l : List ℕ) (ask : Ask) (best : Bool) where
 
 module _ (gpus : List Gpu) (n : ℕ) (sites : List ℕ) (ask : Ask) (best : Bool) where
   -- where there is room it is the choice among the eligible
-  pub choose-room : isEnough (whyNotHere gpus n sites ask) ≡ true → choose gpus n sites ask best ≡ choiceOf (nodeKeys gpus) (groupKeys gpus) (eligibles gpus n sites ask) ask best
+  pub choose-room : isEnough (whyNotHere gpus n sites ask) ≡ true →
+      choose gpus n sites ask best ≡ choiceOf (nodeKeys gpus) (groupKeys gpus) (eligibles gpus n sites ask) ask best
   unfolding choose
   choose-room h = rw h
 

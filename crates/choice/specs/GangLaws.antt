@@ -37,7 +37,8 @@ those-halves p q (suc m) i =
     (λ a. rw a r)
 
 -- a rising list whose members compare by their number is in order
-ordered-rising : (before : ℕ → ℕ → Bool) (P : ℕ → Type 0) → ((x y : ℕ) → P x → P y → x < y → before x y ≡ true) → (lo : ℕ) (l : List ℕ) → Rising lo l → All P l → Ordered before l
+ordered-rising : (before : ℕ → ℕ → Bool) (P : ℕ → Type 0) → ((x y : ℕ) → P x → P y → x < y → before x y ≡ true) → (lo : ℕ) (l : List ℕ) →
+    Rising lo l → All P l → Ordered before l
 ordered-rising before P f lo [] r h = tt
 ordered-rising before P f lo (x ∷ l) r h = (after (x + 1) l (omega arith) (r .1) (h .1), ordered-rising before P f (x + 1) l (r .1) (h .1))
   where
@@ -66,7 +67,8 @@ module _ (nodes groups l : List ℕ) (per : ℕ) where
   whole-means : (k : ℕ) → gangNode nodes groups l per false k ≡ true → (per ≤ countOf nodes l k) × (partedOn nodes groups l per k ≡ false)
   unfolding gangNode
   whole-means k h =
-      let r : (enoughOn nodes l per k ≡ true) × (not (partedOn nodes groups l per k) ≡ true) = and-both (enoughOn nodes l per k) (not (partedOn nodes groups l per k)) h in
+      let r : (enoughOn nodes l per k ≡ true) × (not (partedOn nodes groups l per k) ≡ true) =
+      and-both (enoughOn nodes l per k) (not (partedOn nodes groups l per k)) h in
       (leb-true per (countOf nodes l k) (r .0), not-true (partedOn nodes groups l per k) (r .1))
 
   parted-means : (k : ℕ) → gangNode nodes groups l per true k ≡ true → (per ≤ countOf nodes l k) × (partedOn nodes groups l per k ≡ true)
@@ -101,8 +103,10 @@ module _ (nodes groups l : List ℕ) (per : ℕ) where
       (λ k. (k < 32) × (per ≤ countOf nodes l k))
       (wholeNodes nodes groups l per)
       (partedNodes nodes groups l per)
-      (all-weaken (λ k. (k < 32) × (per ≤ countOf nodes l k) × (partedOn nodes groups l per k ≡ false)) (λ k. (k < 32) × (per ≤ countOf nodes l k)) (wholeNodes nodes groups l per) (λ k r. (r .0, r .1)) wholes)
-      (all-weaken (λ k. (k < 32) × (per ≤ countOf nodes l k) × (partedOn nodes groups l per k ≡ true)) (λ k. (k < 32) × (per ≤ countOf nodes l k)) (partedNodes nodes groups l per) (λ k r. (r .0, r .1)) parts)
+      (all-weaken (λ k. (k < 32) × (per ≤ countOf nodes l k) × (partedOn nodes groups l per k ≡ false)) (λ k. (k < 32) × (per ≤ countOf nodes l k))
+      (wholeNodes nodes groups l per) (λ k r. (r .0, r .1)) wholes)
+      (all-weaken (λ k. (k < 32) × (per ≤ countOf nodes l k) × (partedOn nodes groups l per k ≡ true)) (λ k. (k < 32) × (per ≤ countOf nodes l k))
+      (partedNodes nodes groups l per) (λ k r. (r .0, r .1)) parts)
 
   -- none that has enough is left out
   pub order-has : (k : ℕ) → k < 32 → per ≤ countOf nodes l k → has k (gangOrder nodes groups l per) ≡ true
@@ -114,11 +118,13 @@ module _ (nodes groups l : List ℕ) (per : ℕ) where
       (λ e. or-right
       (has k (wholeNodes nodes groups l per))
       (has k (partedNodes nodes groups l per))
-      (those-has (gangNode nodes groups l per true) 32 0 k (omega arith) (omega arith) (both-and (enoughOn nodes l per k) (partedOn nodes groups l per k) (le-leb per (countOf nodes l k) n) e)))
+      (those-has (gangNode nodes groups l per true) 32 0 k (omega arith) (omega arith)
+      (both-and (enoughOn nodes l per k) (partedOn nodes groups l per k) (le-leb per (countOf nodes l k) n) e)))
       (λ e. or-left
       (has k (wholeNodes nodes groups l per))
       (has k (partedNodes nodes groups l per))
-      (those-has (gangNode nodes groups l per false) 32 0 k (omega arith) (omega arith) (both-and (enoughOn nodes l per k) (not (partedOn nodes groups l per k)) (le-leb per (countOf nodes l k) n) (rw e)))))
+      (those-has (gangNode nodes groups l per false) 32 0 k (omega arith) (omega arith)
+      (both-and (enoughOn nodes l per k) (not (partedOn nodes groups l per k)) (le-leb per (countOf nodes l k) n) (rw e)))))
 
   -- there are as many as candidates
   pub order-length : length (gangOrder nodes groups l per) ≡ length (candidates nodes l per)
@@ -189,14 +195,20 @@ module _ (nodes groups l : List ℕ) (per : ℕ) where
   shares-size [] h = omega arith
   shares-size (k ∷ ks) h =
       let e : per * suc (length ks) ≡ per * length ks + per = mul-suc per (length ks) in
-      omega (arith, length-append (shareOn nodes groups l per k) (shares nodes groups l per ks), share-size groups (withKey nodes k l) per (h .0 .1), shares-size ks (h .1))
+      omega (
+        arith,
+        length-append (shareOn nodes groups l per k) (shares nodes groups l per ks),
+        share-size groups (withKey nodes k l) per (h .0 .1),
+        shares-size ks (h .1),
+      )
 
   -- each is an eligible GPU
   pub shares-of : (ks : List ℕ) → Of l (shares nodes groups l per ks)
   unfolding shares
   shares-of [] = tt
   shares-of (k ∷ ks) =
-      all-append (λ x. has x l ≡ true) (shareOn nodes groups l per k) (shares nodes groups l per ks) (share-all groups (withKey nodes k l) per (λ x. has x l ≡ true) (of-key nodes l k)) (shares-of ks)
+      all-append (λ x. has x l ≡ true) (shareOn nodes groups l per k) (shares nodes groups l per ks)
+      (share-all groups (withKey nodes k l) per (λ x. has x l ≡ true) (of-key nodes l k)) (shares-of ks)
 
   shares-elsewhere : (k : ℕ) (ks : List ℕ) → Apart k ks → All (λ x. getD nodes x 0 ≡ k → ⊥) (shares nodes groups l per ks)
   unfolding shares
@@ -223,7 +235,8 @@ module _ (nodes groups l : List ℕ) (per : ℕ) where
       (λ x. getD nodes x 0 ≡ k)
       (λ x. Apart x (shares nodes groups l per ks))
       (shareOn nodes groups l per k)
-      (λ x a. all-weaken (λ y. getD nodes y 0 ≡ k → ⊥) (λ y. x ≡ y → ⊥) (shares nodes groups l per ks) (λ y n e. n (sym (ap (λ (z : ℕ). getD nodes z 0) e) ∙ a)) (shares-elsewhere k ks (h .0)))
+      (λ x a. all-weaken (λ y. getD nodes y 0 ≡ k → ⊥) (λ y. x ≡ y → ⊥) (shares nodes groups l per ks)
+      (λ y n e. n (sym (ap (λ (z : ℕ). getD nodes z 0) e) ∙ a)) (shares-elsewhere k ks (h .0)))
       (share-node k))
 
   -- ---- the penalty

@@ -45,15 +45,22 @@ pub counts-apart : (keys ks l : List ℕ) → Distinct ks → sumOver (countOf k
 counts-apart keys ks [] h =
     omega (arith, sum-none (countOf keys []) ks (all-every (λ k. countOf keys [] k ≡ 0) ks (λ k. count-nil keys k)))
 counts-apart keys ks (x ∷ l) h =
-    omega
-    (arith, counts-apart keys ks l h, one-key (getD keys x 0) ks h, sum-add (λ k. bit (eqb (getD keys x 0) k)) (countOf keys l) ks, sum-same (countOf keys (x ∷ l)) (λ k. bit (eqb (getD keys x 0) k) + countOf keys l k) ks (all-every (λ k. countOf keys (x ∷ l) k ≡ bit (eqb (getD keys x 0) k) + countOf keys l k) ks (λ k. count-cons keys x l k)))
+    omega (
+      arith,
+      counts-apart keys ks l h,
+      one-key (getD keys x 0) ks h,
+      sum-add (λ k. bit (eqb (getD keys x 0) k)) (countOf keys l) ks,
+      sum-same (countOf keys (x ∷ l)) (λ k. bit (eqb (getD keys x 0) k) + countOf keys l k) ks
+          (all-every (λ k. countOf keys (x ∷ l) k ≡ bit (eqb (getD keys x 0) k) + countOf keys l k) ks (λ k. count-cons keys x l k)),
+    )
 
 -- a share is a part of the node's eligible GPUs
 share-most : (groups here : List ℕ) (per : ℕ) → length (share groups per here) ≤ length here
 unfolding share withKey
 share-most groups here per =
     let e : length (pick (parted groups per here) here (only (keyed groups (shareGroup groups per here)) here)) ≤ length here =
-    pick-either (λ l. length l ≤ length here) (parted groups per here) here (only (keyed groups (shareGroup groups per here)) here) (omega arith) (only-length (keyed groups (shareGroup groups per here)) here) in
+    pick-either (λ l. length l ≤ length here) (parted groups per here) here (only (keyed groups (shareGroup groups per here)) here) (omega arith)
+    (only-length (keyed groups (shareGroup groups per here)) here) in
     omega (arith, length-take per (pick (parted groups per here) here (only (keyed groups (shareGroup groups per here)) here)))
 
 module _ (nodes groups l : List ℕ) (per : ℕ) where

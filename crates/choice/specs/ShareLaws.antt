@@ -33,8 +33,12 @@ module _ (groups here : List ℕ) (per : ℕ) where
   pub group-has : parted groups per here ≡ false → (shareGroup groups per here < 257) × (per ≤ countOf groups here (shareGroup groups per here))
   unfolding parted shareGroup
   group-has h =
-      let b : first (holds (tallyOf groups here) per) 257 0 < 257 = leb-false 257 (first (holds (tallyOf groups here) per) 257 0) h in
-      (b, rw (← tally-at groups here (first (holds (tallyOf groups here) per) 257 0) b) (leb-true per (counted (tallyOf groups here) (first (holds (tallyOf groups here) per) 257 0)) (first-has (holds (tallyOf groups here) per) 257 0 (omega arith))))
+      let b : first (holds (tallyOf groups here) per) 257 0 < 257 = leb-false 257 (first (holds (tallyOf groups here) per) 257 0) h in (
+        b,
+        rw (← tally-at groups here (first (holds (tallyOf groups here) per) 257 0) b)
+            (leb-true per (counted (tallyOf groups here) (first (holds (tallyOf groups here) per) 257 0))
+            (first-has (holds (tallyOf groups here) per) 257 0 (omega arith))),
+      )
 
   -- a penalty says that no group has enough
   pub parted-none : parted groups per here ≡ true → (k : ℕ) → k < 257 → countOf groups here k < per

@@ -117,14 +117,16 @@ pub why-any-keys : (nodes keys l : List ℕ) (ask : Ask) → isGang ask ≡ fals
 unfolding whyNot
 why-any-keys nodes keys l ask h = rw h
 
-module _ (gpus : List Gpu) (n : ℕ) (sites : List ℕ) (ask : Ask) (e : Chosen) (keys : List ℕ) (w : Why) (a : e ≡ chosen (eligibles gpus n sites ask)) (b : (l : List ℕ) → whyNot keys l ask ≡ whyNot (nodeKeys gpus) l ask) (d : w ≡ whyNot keys (listOf e) ask) where
+module _ (gpus : List Gpu) (n : ℕ) (sites : List ℕ) (ask : Ask) (e : Chosen) (keys : List ℕ) (w : Why) (a : e ≡ chosen (eligibles gpus n sites ask))
+    (b : (l : List ℕ) → whyNot keys l ask ≡ whyNot (nodeKeys gpus) l ask) (d : w ≡ whyNot keys (listOf e) ask) where
   -- the cause is found among the eligible GPUs
   pub why-here : w ≡ whyNotHere gpus n sites ask
   unfolding whyNotHere
   why-here = d ∙ rw (held e (eligibles gpus n sites ask) a .0) (b (eligibles gpus n sites ask))
 
   -- there is room
-  pub choose-yes : (best y : Bool) (r : Choice) → y ≡ isEnough w → y ≡ true → r ≡ choiceOf (nodeKeys gpus) (groupKeys gpus) (listOf e) ask best → r ≡ choose gpus n sites ask best
+  pub choose-yes : (best y : Bool) (r : Choice) → y ≡ isEnough w → y ≡ true → r ≡ choiceOf (nodeKeys gpus) (groupKeys gpus) (listOf e) ask best →
+      r ≡ choose gpus n sites ask best
   unfolding choose
   choose-yes best y r f t h =
       let q : isEnough (whyNotHere gpus n sites ask) ≡ true = ap isEnough (sym why-here) ∙ sym f ∙ t in

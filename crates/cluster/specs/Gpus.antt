@@ -8,17 +8,29 @@ use lib.Dec.{eqb}
 use lib.ListN.{length, getD, take, drop, set, replicate, length-set, drop-of-length-le}
 use lib.Seq.{length-take-le, getD-take, set-getD}
 use Rattle.laws.specs.Choice.{pick-either}
+use Rattle.laws.specs.Tables.{take-least}
 use Rattle.model.specs.Gpu.{noGpu}
 use Rattle.model.specs.declared.gpu.Gpu.{Gpu}
 use Rattle.rows.specs.Rows.{same-rows}
 use Rattle.rows.specs.Gpu.{gpuOf, gpusOf, mayHold, gpu-read, not-held}
-use Rattle.mig.specs.More.{turn-drop, map-turn, take-least}
+use Rattle.mig.specs.More.{turn-drop, map-turn}
 use Rattle.mig.specs.Owner.{withoutOwner, freed}
 use Rattle.mig.specs.OwnerLaws.{without-other}
 
 -- The GPU with this owner.
 abbrev pub withOwner : ℕ → Gpu → Gpu
-withOwner owner g = record { node = g .node; kind = g .kind; memory = g .memory; group = g .group; mig = g .mig; owner = owner; profile = g .profile; slices = g .slices; owners = g .owners }
+withOwner owner g = record {
+  node = g .node;
+  kind = g .kind;
+  memory = g .memory;
+  group = g .group;
+  mig = g .mig;
+  owner = owner;
+  profile =
+      g .profile;
+  slices = g .slices;
+  owners = g .owners;
+}
 
 -- The owner on each of the GPUs with these numbers; a number that no GPU has changes nothing.
 unfoldable pub given : ℕ → List Gpu → List ℕ → List Gpu
@@ -36,7 +48,8 @@ module _ (owner : ℕ) (gpus : List Gpu) (ids : List ℕ) (m i : ℕ) where
       turn-drop (take m ids) i 0 (omega arith) ∙ rw a
 
   -- one more number
-  pub given-turn : (id : ℕ) (new all : List Gpu) (g h : Gpu) → i < m → m ≤ length ids → id ≡ getD ids i 0 → g ≡ getD gpus id noGpu → h ≡ withOwner owner g → new ≡ set gpus id h → given owner gpus (drop i (take m ids)) ≡ all → given owner new (drop (i + 1) (take m ids)) ≡ all
+  pub given-turn : (id : ℕ) (new all : List Gpu) (g h : Gpu) → i < m → m ≤ length ids → id ≡ getD ids i 0 → g ≡ getD gpus id noGpu →
+      h ≡ withOwner owner g → new ≡ set gpus id h → given owner gpus (drop i (take m ids)) ≡ all → given owner new (drop (i + 1) (take m ids)) ≡ all
   unfolding given
   given-turn id new all g h l k e read own put so = rw (put, own, read) (rw (ids-turn id l k e) at so)
 
@@ -47,8 +60,9 @@ module _ (owner : ℕ) (gpus : List Gpu) (ids : List ℕ) (m i : ℕ) where
       let l : length (take m ids) ≤ i = omega (arith, length-take-le m ids k) in rw (drop-of-length-le (take m ids) l)
 
 -- before the first number none is given
-pub given-start : (owner : ℕ) (gpus : List Gpu) (ids : List ℕ) (k m : ℕ) → m ≡ min k 128 → length ids ≡ 128 → given owner gpus (take m ids) ≡ given owner gpus (take k ids)
-given-start owner gpus ids k m e l = rw (e, take-least k 128 ids l)
+pub given-start : (owner : ℕ) (gpus : List Gpu) (ids : List ℕ) (k m : ℕ) → m ≡ min k 128 → length ids ≡ 128 →
+    given owner gpus (take m ids) ≡ given owner gpus (take k ids)
+given-start owner gpus ids k m e l = rw (e, take-least k 128 ids (omega arith))
 
 -- ---- the turns of the loop that frees
 
@@ -69,14 +83,16 @@ unheld-same rows i owner h =
     rw (← gpu-read rows i) (freed-unheld owner (gpuOf (getD rows i [])) (not-held (getD rows i []) owner h .0) (not-held (getD rows i []) owner h .1))
 
 -- such a GPU is passed over
-pub free-pass : (rows : List (List ℕ)) (all : List Gpu) (i owner : ℕ) → i < length (gpusOf rows) → mayHold (getD rows i []) owner ≡ false → take i (gpusOf rows) ++ map (freed owner) (drop i (gpusOf rows)) ≡ all → take (i + 1) (gpusOf rows) ++ map (freed owner) (drop (i + 1) (gpusOf rows)) ≡ all
+pub free-pass : (rows : List (List ℕ)) (all : List Gpu) (i owner : ℕ) → i < length (gpusOf rows) → mayHold (getD rows i []) owner ≡ false →
+    take i (gpusOf rows) ++ map (freed owner) (drop i (gpusOf rows)) ≡ all → take (i + 1) (gpusOf rows) ++ map (freed owner) (drop (i + 1) (gpusOf rows)) ≡ all
 free-pass rows all i owner l h e =
     let t : List Gpu = gpusOf rows in
     let s : set t i (freed owner (getD t i noGpu)) ≡ t = ap (set t i) (unheld-same rows i owner h) ∙ set-getD t i noGpu in
     rw s at (map-turn (freed owner) t i noGpu l) ∙ e
 
 -- any other is freed
-pub free-turn : (t new all : List Gpu) (i owner : ℕ) (g h : Gpu) → i < length t → g ≡ getD t i noGpu → h ≡ freed owner g → new ≡ set t i h → take i t ++ map (freed owner) (drop i t) ≡ all → take (i + 1) new ++ map (freed owner) (drop (i + 1) new) ≡ all
+pub free-turn : (t new all : List Gpu) (i owner : ℕ) (g h : Gpu) → i < length t → g ≡ getD t i noGpu → h ≡ freed owner g → new ≡ set t i h →
+    take i t ++ map (freed owner) (drop i t) ≡ all → take (i + 1) new ++ map (freed owner) (drop (i + 1) new) ≡ all
 free-turn t new all i owner g h l read free put e = rw (put, free, read) (map-turn (freed owner) t i noGpu l ∙ e)
 
 -- a GPU written leaves as many

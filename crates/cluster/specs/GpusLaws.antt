@@ -33,14 +33,16 @@ module _ (owner : ℕ) where
   given-other gpus [] k h = refl
   given-other gpus (i ∷ ids) k h =
       let r : (eqb k i ≡ false) × (has k ids ≡ false) = or-none (eqb k i) (has k ids) h in
-      given-other (set gpus i (withOwner owner (getD gpus i noGpu))) ids k (r .1) ∙ getD-set-other gpus i k (withOwner owner (getD gpus i noGpu)) noGpu (eqb-false k i (r .0))
+      given-other (set gpus i (withOwner owner (getD gpus i noGpu))) ids k (r .1)
+      ∙ getD-set-other gpus i k (withOwner owner (getD gpus i noGpu)) noGpu (eqb-false k i (r .0))
 
   -- given once
   once : (gpus : List Gpu) (i k : ℕ) → k < length gpus → k ≡ i → getD (set gpus i (withOwner owner (getD gpus i noGpu))) k noGpu ≡ withOwner owner (getD gpus k noGpu)
   once gpus i k h s = rw (← s) (getD-set-same gpus k (withOwner owner (getD gpus k noGpu)) noGpu h)
 
   -- given twice is given once
-  twice : (gpus : List Gpu) (i k : ℕ) → k < length gpus → withOwner owner (getD (set gpus i (withOwner owner (getD gpus i noGpu))) k noGpu) ≡ withOwner owner (getD gpus k noGpu)
+  twice : (gpus : List Gpu) (i k : ℕ) → k < length gpus →
+      withOwner owner (getD (set gpus i (withOwner owner (getD gpus i noGpu))) k noGpu) ≡ withOwner owner (getD gpus k noGpu)
   twice gpus i k h =
       ⊎-elim
       (λ s. ap (withOwner owner) (once gpus i k h s))
@@ -72,7 +74,8 @@ unfolding freed
 freed-given owner g z h = rw (without-same owner, without-kept owner (g .owners) (h .1), ← z)
 
 -- freeing undoes giving, where the owner held nothing before and the chosen GPUs were nobody's
-pub freed-undoes : (owner : ℕ) (gpus : List Gpu) (ids : List ℕ) → All (HoldsNone owner) gpus → All (λ i. getD gpus i noGpu .owner ≡ 0) ids → map (freed owner) (given owner gpus ids) ≡ gpus
+pub freed-undoes : (owner : ℕ) (gpus : List Gpu) (ids : List ℕ) → All (HoldsNone owner) gpus → All (λ i. getD gpus i noGpu .owner ≡ 0) ids →
+    map (freed owner) (given owner gpus ids) ≡ gpus
 freed-undoes owner gpus ids h z =
     ext-getD
     (freed owner noGpu)
@@ -86,5 +89,7 @@ freed-undoes owner gpus ids h z =
     each k m =
         split
         (has k ids)
-        (λ e. ap (freed owner) (given-in owner gpus ids k m e) ∙ freed-given owner (getD gpus k noGpu) (has-all (λ i. getD gpus i noGpu .owner ≡ 0) k ids z e) (all-at (HoldsNone owner) gpus k noGpu h m))
-        (λ e. ap (freed owner) (given-other owner gpus ids k e) ∙ freed-kept owner (getD gpus k noGpu) (all-at (HoldsNone owner) gpus k noGpu h m .0) (all-at (HoldsNone owner) gpus k noGpu h m .1))
+        (λ e. ap (freed owner) (given-in owner gpus ids k m e)
+        ∙ freed-given owner (getD gpus k noGpu) (has-all (λ i. getD gpus i noGpu .owner ≡ 0) k ids z e) (all-at (HoldsNone owner) gpus k noGpu h m))
+        (λ e. ap (freed owner) (given-other owner gpus ids k e)
+        ∙ freed-kept owner (getD gpus k noGpu) (all-at (HoldsNone owner) gpus k noGpu h m .0) (all-at (HoldsNone owner) gpus k noGpu h m .1))

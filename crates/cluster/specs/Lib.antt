@@ -1,9 +1,6 @@
 -- The definitions and laws of the cluster.
 pub mod Gpus
 pub mod GpusLaws
-pub mod Order
-pub mod OrderSteps
-pub mod OrderLaws
 pub mod Queue
 pub mod QueueLaws
 pub mod Usage

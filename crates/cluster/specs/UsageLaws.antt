@@ -29,11 +29,13 @@ pub charge-none : (tenant : ℕ) (j : Job) → holding j ≡ false → chargeTo 
 charge-none tenant j h = sym (charge-free tenant j (and-left (holding j) (eqb (j .ask .tenant) tenant) h))
 
 -- a write to a job takes its old charge out and puts the new one in
-pub usage-set : (jobs : List Job) (n tenant i : ℕ) (j : Job) → i < n → i < length jobs → usage (set jobs i j) n tenant + chargeTo tenant (getD jobs i noJob) ≡ usage jobs n tenant + chargeTo tenant j
+pub usage-set : (jobs : List Job) (n tenant i : ℕ) (j : Job) → i < n → i < length jobs →
+    usage (set jobs i j) n tenant + chargeTo tenant (getD jobs i noJob) ≡ usage jobs n tenant + chargeTo tenant j
 unfolding usage
 usage-set jobs n tenant i j h k =
     let l : i < length (take n jobs) = omega (arith, length-take n jobs) in
-    let s : sumOver (chargeTo tenant) (set (take n jobs) i j) + chargeTo tenant (getD (take n jobs) i noJob) ≡ sumOver (chargeTo tenant) (take n jobs) + chargeTo tenant j = sum-set (chargeTo tenant) (take n jobs) i j noJob l in
+    let s : sumOver (chargeTo tenant) (set (take n jobs) i j) + chargeTo tenant (getD (take n jobs) i noJob) ≡ sumOver (chargeTo tenant)
+    (take n jobs) + chargeTo tenant j = sum-set (chargeTo tenant) (take n jobs) i j noJob l in
     rw (take-set-lt n jobs i j h, ← getD-take n jobs i noJob h) s
 
 -- a write past the jobs changes nothing

@@ -1,6 +1,5 @@
 // The cluster: who holds what, and the order of the waiting queue.
 
 pub mod gpus;
-pub mod order;
 pub mod queue;
 pub mod usage;

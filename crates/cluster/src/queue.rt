@@ -1,9 +1,9 @@
 // The order of the waiting queue.
 
-use crate::order::sort_front;
 use model::job::Job;
 use model::number::bits_of;
 use model::sizes::JOBS;
+use order::sort_front;
 use rows::job::ROW;
 use rows::job::job_places;
 use rows::job::read_job;

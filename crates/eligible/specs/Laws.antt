@@ -17,7 +17,8 @@ use Rattle.eligible.specs.Rule.{enough, asked, unowned, uncut, eligible}
 use Rattle.eligible.specs.Eligible.{mayTake, eligibles}
 
 -- an eligible GPU is nobody's and uncut, and has the memory, the type and the site that are asked for
-pub eligible-means : (ask : Ask) (site : ℕ) (g : Gpu) → eligible ask site g ≡ true → (g .owner ≡ 0) × (g .slices ≡ 0) × (enough (ask .memory) (g .memory) ≡ true) × (asked (ask .kind) (g .kind + 1) ≡ true) × (asked (ask .site) site ≡ true)
+pub eligible-means : (ask : Ask) (site : ℕ) (g : Gpu) → eligible ask site g ≡ true →
+    (g .owner ≡ 0) × (g .slices ≡ 0) × (enough (ask .memory) (g .memory) ≡ true) × (asked (ask .kind) (g .kind + 1) ≡ true) × (asked (ask .site) site ≡ true)
 unfolding eligible
 eligible-means ask site g h =
     let a : _ = and-both (((unowned g && uncut g) && enough (ask .memory) (g .memory)) && asked (ask .kind) (g .kind + 1)) (asked (ask .site) site) h in

@@ -14,14 +14,6 @@ use Rattle.laws.specs.Sort.{only}
 
 -- ---- fronts
 
--- a front that is cut at the list's own bound
-pub take-least : {A : Type 0} (n m : ℕ) (l : List A) → length l ≤ m → take (min n m) l ≡ take n l
-take-least n m l h =
-    ⊎-elim
-    (λ a. let e : min n m ≡ n = omega arith in rw e)
-    (λ a. let e : min n m ≡ m = omega arith in rw (e, take-all m l h, take-all n l (omega arith)))
-    (le-or-lt n m)
-
 -- the front of a front
 pub take-both : {A : Type 0} (m n : ℕ) (l : List A) → take m (take n l) ≡ take (min n m) l
 take-both m n l =

@@ -10,8 +10,8 @@ use borrow.Author.Tests.{eq-eqb, ne-eqb}
 use Rattle.laws.specs.Lists.{pad, pad-set, pad-full, pad-take}
 use Rattle.laws.specs.Search.{those, those-length, those-next-take, those-next-skip}
 use Rattle.laws.specs.Sort.{only}
-use Rattle.eligible.specs.More.{take-next, take-both, take-past, take-least, each-const, only-length, only-take, only-skip, map-next, each, each-same, each-set, each-get, each-length}
-use Rattle.laws.specs.Tables.{past-read}
+use Rattle.eligible.specs.More.{take-next, take-both, take-past, each-const, only-length, only-take, only-skip, map-next, each, each-same, each-set, each-get, each-length}
+use Rattle.laws.specs.Tables.{past-read, take-least}
 use Rattle.model.specs.Gpu.{noGpu}
 use Rattle.model.specs.declared.gpu.Gpu.{Gpu}
 use Rattle.model.specs.declared.job.Ask.{Ask}
@@ -50,14 +50,16 @@ module _ (keys : List ℕ) (key : ℕ) (from : List ℕ) (i : ℕ) (within : i <
   with-room = omega (arith, only-length (keyed keys key) (take i from), length-take i from)
 
   -- a turn that keeps the number at hand
-  pub with-take : (ids : List ℕ) (k : ℕ) → getD keys (getD from i 0) 0 ≡ key → Kept ids k (withKey keys key (take i from)) → Kept (set ids k (getD from i 0)) (k + 1) (withKey keys key (take (i + 1) from))
+  pub with-take : (ids : List ℕ) (k : ℕ) → getD keys (getD from i 0) 0 ≡ key → Kept ids k (withKey keys key (take i from)) →
+      Kept (set ids k (getD from i 0)) (k + 1) (withKey keys key (take (i + 1) from))
   unfolding withKey
   with-take ids k t r =
       rw (only-take (keyed keys key) from i 0 within (eq-eqb (getD keys (getD from i 0) 0) key t))
       (kept-add ids k (getD from i 0) (withKey keys key (take i from)) with-room r)
 
   -- a turn that does not
-  pub with-skip : (ids : List ℕ) (k : ℕ) → (getD keys (getD from i 0) 0 ≡ key → ⊥) → Kept ids k (withKey keys key (take i from)) → Kept ids k (withKey keys key (take (i + 1) from))
+  pub with-skip : (ids : List ℕ) (k : ℕ) → (getD keys (getD from i 0) 0 ≡ key → ⊥) → Kept ids k (withKey keys key (take i from)) →
+      Kept ids k (withKey keys key (take (i + 1) from))
   unfolding withKey
   with-skip ids k t r =
       rw (only-skip (keyed keys key) from i 0 within (ne-eqb (getD keys (getD from i 0) 0) key t)) r
@@ -83,7 +85,8 @@ module _ (keys from : List ℕ) (i : ℕ) (within : i < length from) where
   count-other k e = rw (only-skip (keyed keys k) from i 0 within (ne-eqb (getD keys (getD from i 0) 0) k e))
 
   -- a turn that counts
-  pub tally-in : (t : List ℕ) (k : ℕ) → k ≡ getD keys (getD from i 0) 0 → k < 257 → t ≡ tallyOf keys (take i from) → set t k (getD t k 0 + 1) ≡ tallyOf keys (take (i + 1) from)
+  pub tally-in : (t : List ℕ) (k : ℕ) → k ≡ getD keys (getD from i 0) 0 → k < 257 → t ≡ tallyOf keys (take i from) →
+      set t k (getD t k 0 + 1) ≡ tallyOf keys (take (i + 1) from)
   unfolding tallyOf
   tally-in t k e h r =
       rw r
@@ -141,7 +144,8 @@ copy-turn t from i h b r =
     rw (take-next from i 0 h) (store t (take i from) (getD from i 0) i (omega (arith, length-take i from)) b r)
 
 -- the first of a list, copied
-pub copy-done : (ids from : List ℕ) (n a b : ℕ) → length from ≡ 128 → n ≡ min (min a 128) b → ids ≡ pad 128 0 (take n from) → record { ids = ids; count = n } ≡ chosen (take b (take a from))
+pub copy-done : (ids from : List ℕ) (n a b : ℕ) → length from ≡ 128 → n ≡ min (min a 128) b → ids ≡ pad 128 0 (take n from) →
+    record { ids = ids; count = n } ≡ chosen (take b (take a from))
 copy-done ids from n a b e h r =
     let m : min (min a 128) b ≡ min (min a b) 128 = omega arith in
     let s : take n from ≡ take b (take a from) = rw (h, m, take-both b a from) (take-least (min a b) 128 from (omega arith)) in
@@ -153,7 +157,8 @@ pub copy-all : (t from : List ℕ) (i : ℕ) → length from ≡ 128 → 128 ≤
 copy-all t from i e h r = r ∙ rw (take-all i from (omega arith)) (pad-full 128 0 from (omega arith))
 
 -- a turn that stores the image of an element
-pub map-turn : {A : Type 0} (f : A → ℕ) (t : List ℕ) (l : List A) (i : ℕ) (d : A) → i < length l → i < 128 → t ≡ pad 128 0 (map f (take i l)) → set t i (f (getD l i d)) ≡ pad 128 0 (map f (take (i + 1) l))
+pub map-turn : {A : Type 0} (f : A → ℕ) (t : List ℕ) (l : List A) (i : ℕ) (d : A) → i < length l → i < 128 → t ≡ pad 128 0 (map f (take i l)) →
+    set t i (f (getD l i d)) ≡ pad 128 0 (map f (take (i + 1) l))
 map-turn f t l i d h b r =
     rw (map-next f l i d h) (store t (map f (take i l)) (f (getD l i d)) i (length-map (take i l) f ∙ omega (arith, length-take i l)) b r)
 
@@ -179,13 +184,15 @@ module _ (p : ℕ → Bool) (i : ℕ) (ids : List ℕ) (k : ℕ) where
   those-size r = omega (arith, r .size, those-length p i 0)
 
 -- the test of the code is that of the definition
-pub may-is : (gpus : List Gpu) (sites : List ℕ) (ask : Ask) (i s : ℕ) (g : Gpu) (r : Bool) → g ≡ getD gpus i noGpu → s ≡ getD sites (g .node) 0 → r ≡ eligible ask s g → mayTake gpus sites ask i ≡ r
+pub may-is : (gpus : List Gpu) (sites : List ℕ) (ask : Ask) (i s : ℕ) (g : Gpu) (r : Bool) → g ≡ getD gpus i noGpu → s ≡ getD sites (g .node) 0 →
+    r ≡ eligible ask s g → mayTake gpus sites ask i ≡ r
 may-is gpus sites ask i s g r e h f = sym (f ∙ rw (h, e))
 
 -- ---- one list behind another
 
 -- a turn that puts one more behind
-pub append-turn : (t l from : List ℕ) (s i : ℕ) → s ≡ length l → i < length from → s + i < 128 → t ≡ pad 128 0 (l ++ take i from) → set t (s + i) (getD from i 0) ≡ pad 128 0 (l ++ take (i + 1) from)
+pub append-turn : (t l from : List ℕ) (s i : ℕ) → s ≡ length l → i < length from → s + i < 128 → t ≡ pad 128 0 (l ++ take i from) →
+    set t (s + i) (getD from i 0) ≡ pad 128 0 (l ++ take (i + 1) from)
 append-turn t l from s i e h b r =
     rw (take-next from i 0 h, ← append-assoc l (take i from) (getD from i 0 ∷ []))
     (store t (l ++ take i from) (getD from i 0) (s + i) (omega (arith, length-append l (take i from), length-take i from)) b r)
@@ -203,7 +210,8 @@ append-part from a n b e m =
     rw (m, least-swap a b 128, take-both b a from) (take-least (min a b) 128 from (omega arith))
 
 -- both lists, as far as there is room
-pub append-done : (ids l from : List ℕ) (a n s : ℕ) → length from ≡ 128 → s ≡ length l → s ≤ 128 → n ≡ min (min a 128) (128 - s) → ids ≡ pad 128 0 (l ++ take n from) → record { ids = ids; count = s + n } ≡ chosen (take 128 (l ++ take a from))
+pub append-done : (ids l from : List ℕ) (a n s : ℕ) → length from ≡ 128 → s ≡ length l → s ≤ 128 → n ≡ min (min a 128) (128 - s) →
+    ids ≡ pad 128 0 (l ++ take n from) → record { ids = ids; count = s + n } ≡ chosen (take 128 (l ++ take a from))
 append-done ids l from a n s e f h m r =
     let t : take n from ≡ take (128 - length l) (take a from) = append-part from a n (128 - length l) e (rw f at m) in
     let w : l ++ take n from ≡ take 128 (l ++ take a from) = rw t (sym (take-past 128 l (take a from) (rw f at h))) in

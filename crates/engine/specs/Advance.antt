@@ -25,7 +25,18 @@ hasEvent p = used (nextEvent p)
 
 -- the plan without the event, at its time
 unfoldable pub withEvent : Plan → Plan
-withEvent p = record { setting = p .setting; gpus = p .gpus; jobs = p .jobs; queue = p .queue; waiting = p .waiting; events = taken (p .events) (least (p .events)); next = p .next; clock = nextEvent p .time; totals = p .totals }
+withEvent p = record {
+  setting = p .setting;
+  gpus = p .gpus;
+  jobs = p .jobs;
+  queue = p .queue;
+  waiting = p .waiting;
+  events =
+      taken (p .events) (least (p .events));
+  next = p .next;
+  clock = nextEvent p .time;
+  totals = p .totals;
+}
 
 -- by the kind of the event
 abbrev pub byKind : EventKind → Plan → Event → Moment
@@ -58,7 +69,18 @@ found-under top events free = rw (least-under top events free)
 
 -- the plan without the event in that entry, at its time
 unfoldable pub withFound : Plan → Found → Plan
-withFound p f = record { setting = p .setting; gpus = p .gpus; jobs = p .jobs; queue = p .queue; waiting = p .waiting; events = taken (p .events) (f .at); next = p .next; clock = f .event .time; totals = p .totals }
+withFound p f = record {
+  setting = p .setting;
+  gpus = p .gpus;
+  jobs = p .jobs;
+  queue = p .queue;
+  waiting = p .waiting;
+  events =
+      taken (p .events) (f .at);
+  next = p .next;
+  clock = f .event .time;
+  totals = p .totals;
+}
 
 unfoldable pub advancedBy : Plan → Found → Moment
 advancedBy p f = let m = happened (withFound p f) (f .event) in pick (m .goes) (settled m) m

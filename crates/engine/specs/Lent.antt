@@ -1,5 +1,5 @@
 -- A step and what follows its event, of a plan whose tables of GPUs, jobs and events are lent as rows.
-use mathlib.Core.Path.{_≡_, refl, ap, _∙_}
+use mathlib.Core.Path.{_≡_, ap, _∙_}
 use mathlib.Core.Bool.{false}
 use mathlib.Core.List.{List, []}
 use Prim.Native.Nat.{ℕ}
@@ -46,12 +46,15 @@ restAfter r q b jobs =
 -- the starts, when the victims' timeouts are queued: they look at no GPU, whatever the rows before and after the pass
 pub starts-lent :
     (r : Rest) (q : Turn) (was gpus jobs room mid : List (List ℕ)) (a : Next) (b : Begun) →
-    wholeAhead a mid ≡ timeoutsQueued (r .clock) (jobsOf jobs) (wholeAhead (record { next = r .next; ok = q .line .ok }) room) (take (q .line .evicted) (q .line .victims)) →
-    b ≡ begunAll (r .setting .options) (r .clock) (wholeBegun (record { ahead = a; totals = q .line .totals; log = q .line .log }) jobs mid) (take (q .count) (q .placed)) →
+    wholeAhead a mid ≡ timeoutsQueued (r .clock) (jobsOf jobs) (wholeAhead (record { next = r .next; ok = q .line .ok }) room)
+    (take (q .line .evicted) (q .line .victims)) →
+    b ≡ begunAll (r .setting .options) (r .clock) (wholeBegun (record { ahead = a; totals = q .line .totals; log = q .line .log }) jobs mid)
+    (take (q .count) (q .placed)) →
     b ≡ startsOf (wholePlan r was jobs room) (wholePass q gpus jobs)
 unfolding startsOf
 starts-lent r q was gpus jobs room mid a b t e =
-    e ∙ ap (λ (x : Ahead). begunAll (r .setting .options) (r .clock) (record { jobs = jobsOf jobs; ahead = x; totals = q .line .totals; log = q .line .log }) (take (q .count) (q .placed))) t
+    e ∙ ap (λ (x : Ahead). begunAll (r .setting .options) (r .clock)
+    (record { jobs = jobsOf jobs; ahead = x; totals = q .line .totals; log = q .line .log }) (take (q .count) (q .placed))) t
 
 -- the moment after a pass and its starts
 abbrev settledBy : Plan → Pass → Begun → Moment
@@ -82,4 +85,15 @@ pub happened-lent :
     m ≡ happened (withFound (wholePlan r gpus jobs room) f) (f .event)
 unfolding withFound
 happened-lent r f gpus jobs room mid m t e =
-    e ∙ ap (λ (x : List Event). happened (record { setting = r .setting; gpus = gpusOf gpus; jobs = jobsOf jobs; queue = r .queue; waiting = r .waiting; events = x; next = r .next; clock = f .event .time; totals = r .totals }) (f .event)) t
+    e ∙ ap (λ (x : List Event). happened (record {
+      setting = r .setting;
+      gpus = gpusOf gpus;
+      jobs = jobsOf jobs;
+      queue = r .queue;
+      waiting = r .waiting;
+      events = x;
+      next = r .next;
+      clock =
+          f .event .time;
+      totals = r .totals;
+    }) (f .event)) t

@@ -57,7 +57,23 @@ settled m =
 abbrev cleared : Moment → Moment
 cleared m =
     let p = m .plan in
-    record { plan = record { setting = p .setting; gpus = p .gpus; jobs = p .jobs; queue = replicate Sizes.jobs 0; waiting = p .waiting; events = p .events; next = p .next; clock = p .clock; totals = p .totals }; log = m .log; ok = m .ok; goes = false }
+    record {
+      plan = record {
+        setting = p .setting;
+        gpus = p .gpus;
+        jobs = p .jobs;
+        queue = replicate Sizes.jobs 0;
+        waiting = p .waiting;
+        events =
+            p .events;
+        next = p .next;
+        clock = p .clock;
+        totals = p .totals;
+      };
+      log = m .log;
+      ok = m .ok;
+      goes = false;
+    }
 
 -- Where nobody waits the pass looks at nobody, and nobody starts.
 pub settled-idle : (m : Moment) → m .plan .waiting ≡ 0 → cleared m ≡ settled m

@@ -47,7 +47,8 @@ fn happen_as(
     rest: Rest,
     e: Event,
 ) -> Point
-    ensures { λ r. ⌜ wholeMoment r (now (gpus .exit)) (now (jobs .exit)) (now (room .exit)) ≡ happened (wholePlan rest (now (gpus .entry)) (now (jobs .entry)) (now (room .entry))) e ⌝ }
+    ensures { λ r. ⌜ wholeMoment r (now (gpus .exit)) (now (jobs .exit)) (now (room .exit))
+        ≡ happened (wholePlan rest (now (gpus .entry)) (now (jobs .entry)) (now (room .entry))) e ⌝ }
 {
     let kind = e.kind;
     match kind {
@@ -66,7 +67,8 @@ pub fn advance(
     rest: Rest,
     next: Found,
 ) -> Point
-    ensures { λ r. ⌜ wholeMoment r (now (gpus .exit)) (now (jobs .exit)) (now (room .exit)) ≡ advancedBy (wholePlan rest (now (gpus .entry)) (now (jobs .entry)) (now (room .entry))) next ⌝ }
+    ensures { λ r. ⌜ wholeMoment r (now (gpus .exit)) (now (jobs .exit)) (now (room .exit))
+        ≡ advancedBy (wholePlan rest (now (gpus .entry)) (now (jobs .entry)) (now (room .entry))) next ⌝ }
 {
     let e = next.event;
     take_event(room, next.at);

@@ -46,7 +46,8 @@ fn starts_of(
     rest: Rest,
     pass: Turn,
 ) -> Beginning
-    ensures { λ r. ⌜ ((was gpus : List (List ℕ)) → wholeBegun r (now (jobs .exit)) (now (room .exit)) ≡ startsOf (wholePlan rest was (now (jobs .entry)) (now (room .entry))) (wholePass pass gpus (now (jobs .entry)))) ⌝ }
+    ensures { λ r. ⌜ ((was gpus : List (List ℕ)) → wholeBegun r (now (jobs .exit)) (now (room .exit))
+        ≡ startsOf (wholePlan rest was (now (jobs .entry)) (now (room .entry))) (wholePass pass gpus (now (jobs .entry)))) ⌝ }
 {
     let setting = rest.setting;
     let options = setting.options;
@@ -95,7 +96,8 @@ pub fn settle(
     room: &mut [[u64; ENTRY]; EVENTS],
     m: Point,
 ) -> Point
-    ensures { λ r. ⌜ wholeMoment r (now (gpus .exit)) (now (jobs .exit)) (now (room .exit)) ≡ settled (wholeMoment m (now (gpus .entry)) (now (jobs .entry)) (now (room .entry))) ⌝ }
+    ensures { λ r. ⌜ wholeMoment r (now (gpus .exit)) (now (jobs .exit)) (now (room .exit))
+        ≡ settled (wholeMoment m (now (gpus .entry)) (now (jobs .entry)) (now (room .entry))) ⌝ }
 {
     let rest = m.rest;
     if rest.waiting == 0 {

@@ -1,5 +1,5 @@
 -- Best fit.
-use mathlib.Core.Bool.{Bool}
+use mathlib.Core.Bool.{Bool, false}
 use mathlib.Core.List.{List, map}
 use Prim.Native.Nat.{ℕ, _-_}
 use lib.Dec.{leb}
@@ -8,8 +8,8 @@ use Rattle.laws.specs.Choice.{pick}
 use Rattle.laws.specs.Greatest.{argmin}
 use Rattle.laws.specs.Sort.{sort}
 use Rattle.model.specs.Sizes as Sizes
+use Rattle.order.specs.Order.{byNumbers}
 use Rattle.eligible.specs.Chosen.{withKey, tallyOf}
-use Rattle.fit.specs.Order.{earlier}
 use Rattle.fit.specs.Group.{counted}
 
 -- More than any node can have left over.
@@ -38,7 +38,7 @@ rankKeys counts nodes = map (rank counts) nodes
 
 -- A GPU may stand before another: its node has more of the eligible GPUs l, or as many and no greater number.
 abbrev pub fuller : List ℕ → List ℕ → ℕ → ℕ → Bool
-fuller nodes l = earlier (rankKeys (tallyOf nodes l) nodes) nodes
+fuller nodes l = byNumbers false (rankKeys (tallyOf nodes l) nodes) nodes
 
 -- The eligible GPUs node by node: the node with most of them first, then by number.
 unfoldable pub fullestFirst : List ℕ → List ℕ → List ℕ

@@ -7,19 +7,18 @@ use Prim.Native.Nat.{ℕ, _-_, _≤_, _<_}
 use native.Mathlib.Omega.{arith}
 use lib.Dec.{leb, ltb}
 use lib.ListN.{length, getD, take, List·getD-map, length-map}
-use borrow.Author.Tests.{leb-true, leb-false, ltb-true, le-leb, lt-leb, lt-ltb, eqb-true}
+use borrow.Author.Tests.{leb-true, ltb-true, le-leb, lt-leb, lt-ltb, eqb-true}
 use Rattle.laws.specs.Choice.{pick-cases}
-use Rattle.laws.specs.Tests.{never-both, and-both, le-or-lt}
+use Rattle.laws.specs.Tests.{and-both, le-or-lt}
 use Rattle.laws.specs.Lists.{All, Distinct, all-at, all-weaken}
 use Rattle.laws.specs.Tables.{getD-any}
 use Rattle.laws.specs.Greatest.{argmin-below, argmin-whole, argmin-whole-first}
 use Rattle.laws.specs.Search.{has}
-use Rattle.laws.specs.Sort.{sort, sort-all, sort-length, sort-distinct, sort-ordered, ordered-at, sort-stable, Preorder}
+use Rattle.laws.specs.Sort.{sort, sort-all, sort-length, sort-distinct, sort-ordered, ordered-at, sort-stable}
+use Rattle.order.specs.OrderLaws.{by-second, by-cases, by-order}
 use Rattle.eligible.specs.Chosen.{keyed, withKey, countOf, tallyOf}
 use Rattle.eligible.specs.More.{only-same}
 use Rattle.eligible.specs.Turns.{tally-at, tally-past, count-most}
-use Rattle.fit.specs.Order.{earlier}
-use Rattle.fit.specs.OrderTurns.{earlier-less, earlier-same, earlier-means}
 use Rattle.fit.specs.First.{took}
 use Rattle.fit.specs.Group.{counted}
 use Rattle.fit.specs.Best.{leftOver, bestNode, bestHeld, rank, rankKeys, fuller, fullestFirst, bestFit}
@@ -58,7 +57,14 @@ module _ (nodes l : List ℕ) (count : ℕ) (small : length l ≤ 128) where
   best-holds k h n =
       ⊎-elim
       (λ e. e)
-      (λ e. absurd (omega (arith, best-count, left-not (bestNode (tallyOf nodes l) count) best-below (omega (arith, best-count)), left-held k h n, best-least k h, count-most nodes l k)))
+      (λ e. absurd (omega (
+        arith,
+        best-count,
+        left-not (bestNode (tallyOf nodes l) count) best-below (omega (arith, best-count)),
+        left-held k h n,
+        best-least k h,
+        count-most nodes l k,
+      )))
       (le-or-lt count (length (bestHeld nodes l count)))
 
   -- and has least left over
@@ -87,35 +93,6 @@ module _ (nodes l : List ℕ) (count : ℕ) (small : length l ≤ 128) where
 
 -- ---- node by node
 
--- the order by two keys is one
-pub earlier-order : (first second : List ℕ) → Preorder (earlier first second)
-earlier-order first second =
-    record {
-      total = λ x y h.
-          ⊎-elim
-          (λ a. ⊎-elim
-          (λ b. let e : getD first y 0 ≡ getD first x 0 = omega arith in
-          let q : leb (getD second x 0) (getD second y 0) ≡ false = earlier-same first second x y (sym e) ∙ h in
-          sym (earlier-same first second y x e) ∙ le-leb (getD second y 0) (getD second x 0) (omega (arith, leb-false (getD second x 0) (getD second y 0) q)))
-          (λ b. absurd (never-both (sym (earlier-less first second x y b)) h))
-          (le-or-lt (getD first y 0) (getD first x 0)))
-          (λ a. sym (earlier-less first second y x a))
-          (le-or-lt (getD first x 0) (getD first y 0));
-      trans = λ x y z h k.
-          let p : (getD first x 0 < getD first y 0) ⊎ ((getD first x 0 ≡ getD first y 0) × (getD second x 0 ≤ getD second y 0)) = earlier-means first second x y h in
-          let q : (getD first y 0 < getD first z 0) ⊎ ((getD first y 0 ≡ getD first z 0) × (getD second y 0 ≤ getD second z 0)) = earlier-means first second y z k in
-          ⊎-elim
-          (λ a. ⊎-elim
-          (λ b. sym (earlier-less first second x z (omega arith)))
-          (λ b. sym (earlier-less first second x z (omega (arith, b .0))))
-          q)
-          (λ a. ⊎-elim
-          (λ b. sym (earlier-less first second x z (omega (arith, a .0))))
-          (λ b. sym (earlier-same first second x z (a .0 ∙ b .0)) ∙ le-leb (getD second x 0) (getD second z 0) (omega (arith, a .1, b .1)))
-          q)
-          p;
-    }
-
 module _ (nodes l : List ℕ) (small : length l ≤ 128) where
   -- the eligible GPUs on the node of x
   abbrev pub beside : ℕ → ℕ
@@ -131,10 +108,14 @@ module _ (nodes l : List ℕ) (small : length l ≤ 128) where
   rank-at : (x : ℕ) → x < length nodes → getD (rankKeys (tallyOf nodes l) nodes) x 0 ≡ 128 - beside x
   unfolding rankKeys
   rank-at x h =
-      getD-any (map (rank (tallyOf nodes l)) nodes) x 0 (rank (tallyOf nodes l) 0) (rw (length-map nodes (rank (tallyOf nodes l))) h) ∙ List·getD-map (rank (tallyOf nodes l)) nodes x 0
+      getD-any (map (rank (tallyOf nodes l)) nodes) x 0 (rank (tallyOf nodes l) 0) (rw (length-map nodes (rank (tallyOf nodes l))) h)
+      ∙ List·getD-map (rank (tallyOf nodes l)) nodes x 0
 
   -- an earlier place has a GPU on a node with more, or with as many and no greater number
-  pub fuller-order : (i j : ℕ) → All (λ x. x < length nodes) l → i < j → j < length l → (beside (getD (fullestFirst nodes l) j 0) < beside (getD (fullestFirst nodes l) i 0)) ⊎ ((beside (getD (fullestFirst nodes l) i 0) ≡ beside (getD (fullestFirst nodes l) j 0)) × (getD nodes (getD (fullestFirst nodes l) i 0) 0 ≤ getD nodes (getD (fullestFirst nodes l) j 0) 0))
+  pub fuller-order : (i j : ℕ) → All (λ x. x < length nodes) l → i < j → j < length l →
+      (beside (getD (fullestFirst nodes l) j 0) < beside (getD (fullestFirst nodes l) i 0)) ⊎
+      ((beside (getD (fullestFirst nodes l) i 0) ≡ beside (getD (fullestFirst nodes l) j 0)) ×
+      (getD nodes (getD (fullestFirst nodes l) i 0) 0 ≤ getD nodes (getD (fullestFirst nodes l) j 0) 0))
   unfolding fullestFirst
   fuller-order i j all h b =
       let n : length (sort (fuller nodes l) l) ≡ length l = sort-length (fuller nodes l) l in
@@ -144,14 +125,16 @@ module _ (nodes l : List ℕ) (small : length l ≤ 128) where
       (getD (sort (fuller nodes l) l) j 0)
       (all-at (λ x. x < length nodes) (sort (fuller nodes l) l) i 0 r (omega arith))
       (all-at (λ x. x < length nodes) (sort (fuller nodes l) l) j 0 r (omega arith))
-      (ordered-at (fuller nodes l) (sort (fuller nodes l) l) i j 0 (sort-ordered (fuller nodes l) (earlier-order (rankKeys (tallyOf nodes l) nodes) nodes) l) h (omega arith))
+      (ordered-at (fuller nodes l) (sort (fuller nodes l) l) i j 0
+      (sort-ordered (fuller nodes l) (by-order false (rankKeys (tallyOf nodes l) nodes) nodes) l) h (omega arith))
     where
-      placed : (x y : ℕ) → x < length nodes → y < length nodes → fuller nodes l x y ≡ true → (beside y < beside x) ⊎ ((beside x ≡ beside y) × (getD nodes x 0 ≤ getD nodes y 0))
+      placed : (x y : ℕ) → x < length nodes → y < length nodes → fuller nodes l x y ≡ true →
+          (beside y < beside x) ⊎ ((beside x ≡ beside y) × (getD nodes x 0 ≤ getD nodes y 0))
       placed x y a b e =
           ⊎-elim
           (λ h. inl (omega (arith, h, rank-at x a, rank-at y b)))
           (λ h. inr (omega (arith, h .0, rank-at x a, rank-at y b, beside-small x, beside-small y), h .1))
-          (earlier-means (rankKeys (tallyOf nodes l) nodes) nodes x y e)
+          (by-cases false (rankKeys (tallyOf nodes l) nodes) nodes x y e)
 
   -- the GPUs of one node keep their table order
   pub fuller-stable : (k : ℕ) → All (λ x. x < length nodes) l → withKey nodes k (fullestFirst nodes l) ≡ withKey nodes k l
@@ -175,7 +158,7 @@ module _ (nodes l : List ℕ) (small : length l ≤ 128) where
           let v : getD nodes y 0 ≡ k = eqb-true (getD nodes y 0) k (q .1) in
           let f : getD (rankKeys (tallyOf nodes l) nodes) x 0 ≡ getD (rankKeys (tallyOf nodes l) nodes) y 0 =
           rank-at x (ltb-true x (length nodes) (p .0)) ∙ rw (u, ← v) (sym (rank-at y (ltb-true y (length nodes) (q .0)))) in
-          sym (earlier-same (rankKeys (tallyOf nodes l) nodes) nodes x y f) ∙ le-leb (getD nodes x 0) (getD nodes y 0) (omega arith)
+          by-second false (rankKeys (tallyOf nodes l) nodes) nodes x y f (omega arith)
 
 -- ---- both together
 
@@ -188,7 +171,8 @@ best-right nodes l count d n =
     (leb count (length (bestHeld nodes l count)))
     (bestHeld nodes l count)
     (fullestFirst nodes l)
-    (λ e. right-first l (bestHeld nodes l count) count false (leb-true count (length (bestHeld nodes l count)) e) (of-key nodes l (bestNode (tallyOf nodes l) count)) (key-distinct nodes l (bestNode (tallyOf nodes l) count) d))
+    (λ e. right-first l (bestHeld nodes l count) count false (leb-true count (length (bestHeld nodes l count)) e)
+    (of-key nodes l (bestNode (tallyOf nodes l) count)) (key-distinct nodes l (bestNode (tallyOf nodes l) count) d))
     (λ e. right-first
     l
     (fullestFirst nodes l)

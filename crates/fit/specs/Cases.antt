@@ -1,18 +1,17 @@
 -- The cases of the choices, one for each return of the code.
 use mathlib.Core.Path.{_≡_, _∙_}
 use mathlib.Core.Bool.{Bool, true, false}
-use mathlib.Core.List.{List, _++_}
+use mathlib.Core.List.{List}
 use Prim.Native.Nat.{ℕ, _≤_, _<_}
 use native.Mathlib.Omega.{arith}
-use lib.ListN.{length, take, drop}
+use lib.ListN.{length, take}
 use borrow.Author.Tests.{le-leb, lt-leb}
-use Rattle.laws.specs.Sort.{sort}
+use Rattle.order.specs.Order.{byNumbers, sortedFront}
+use Rattle.order.specs.OrderTurns.{sorted-front}
 use Rattle.eligible.specs.Chosen.{chosen, listOf, withKey, tallyOf}
 use Rattle.eligible.specs.Turns as Turns
 use Rattle.eligible.specs.declared.chosen.Chosen.{Chosen}
 use Rattle.fit.specs.declared.first.Choice.{Choice}
-use Rattle.fit.specs.Order.{earlier}
-use Rattle.fit.specs.OrderTurns.{sorted-front}
 use Rattle.fit.specs.First.{held, took}
 use Rattle.fit.specs.Group.{fullest, fullestGroup, groupChoice}
 use Rattle.fit.specs.Best.{bestNode, bestHeld, rankKeys, fullestFirst, bestFit}
@@ -22,7 +21,8 @@ pub held-count : (c : Chosen) (l : List ℕ) → c ≡ chosen l → c .count ≡
 held-count c l e = rw e
 
 -- the front of a held list, taken
-pub take-held : (c d : Chosen) (l : List ℕ) (count : ℕ) (p : Bool) (r : Choice) → c ≡ chosen l → d ≡ chosen (take count (listOf c)) → r ≡ held d p → r ≡ took (take count l) p
+pub take-held : (c d : Chosen) (l : List ℕ) (count : ℕ) (p : Bool) (r : Choice) → c ≡ chosen l → d ≡ chosen (take count (listOf c)) → r ≡ held d p →
+    r ≡ took (take count l) p
 take-held c d l count p r e f g = g ∙ rw (f, Turns.held c l e .0)
 
 module _ (groups l : List ℕ) (count key : ℕ) (same taken : Chosen) (r : Choice) (k : key ≡ fullest (tallyOf groups l)) (s : same ≡ chosen (withKey groups key l)) where
@@ -43,7 +43,8 @@ module _ (groups l : List ℕ) (count key : ℕ) (same taken : Chosen) (r : Choi
       let n : same .count ≡ length (fullestGroup groups l) = held-count same (fullestGroup groups l) s in
       rw (lt-leb count (length (fullestGroup groups l)) (omega arith)) (e ∙ rw t)
 
-module _ (nodes l : List ℕ) (count node : ℕ) (same taken : Chosen) (r : Choice) (k : node ≡ bestNode (tallyOf nodes l) count) (s : same ≡ chosen (withKey nodes node l)) where
+module _ (nodes l : List ℕ) (count node : ℕ) (same taken : Chosen) (r : Choice) (k : node ≡ bestNode (tallyOf nodes l) count)
+    (s : same ≡ chosen (withKey nodes node l)) where
   -- the node with least left over holds all
   pub best-one : count ≤ same .count → taken ≡ chosen (take count (listOf same)) → r ≡ held taken false → r ≡ took (bestFit nodes l count) false
   unfolding bestFit bestHeld
@@ -62,7 +63,8 @@ module _ (nodes l : List ℕ) (count node : ℕ) (same taken : Chosen) (r : Choi
       rw (lt-leb count (length (bestHeld nodes l count)) (omega arith)) (e ∙ rw t)
 
 -- the sorted table holds the eligible GPUs node by node
-pub node-by-node : (nodes ids first second counts sorted : List ℕ) (n : ℕ) → counts ≡ tallyOf nodes (take n ids) → first ≡ rankKeys counts nodes → second ≡ nodes → sorted ≡ sort (earlier first second) (take n ids) ++ drop n ids → take n sorted ≡ fullestFirst nodes (take n ids)
+pub node-by-node : (nodes ids first second counts sorted : List ℕ) (n : ℕ) → counts ≡ tallyOf nodes (take n ids) → first ≡ rankKeys counts nodes →
+    second ≡ nodes → sorted ≡ sortedFront (byNumbers false first second) n ids → take n sorted ≡ fullestFirst nodes (take n ids)
 unfolding fullestFirst
 node-by-node nodes ids first second counts sorted n a b d e =
-    rw (e, sorted-front (earlier first second) ids n, b, d, a)
+    rw (e, sorted-front (byNumbers false first second) ids n, b, d, a)

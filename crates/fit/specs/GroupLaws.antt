@@ -82,5 +82,6 @@ module _ (groups l : List ℕ) where
         (leb count (length (fullestGroup groups l)))
         (took (take count (fullestGroup groups l)) false)
         (took (firstFit l count) true)
-        (λ e. right-first l (fullestGroup groups l) count false (leb-true count (length (fullestGroup groups l)) e) (of-key groups l (fullest (tallyOf groups l))) (key-distinct groups l (fullest (tallyOf groups l)) d))
+        (λ e. right-first l (fullestGroup groups l) count false (leb-true count (length (fullestGroup groups l)) e)
+        (of-key groups l (fullest (tallyOf groups l))) (key-distinct groups l (fullest (tallyOf groups l)) d))
         (λ e. first-right l count true d n)

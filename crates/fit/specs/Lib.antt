@@ -1,6 +1,4 @@
 -- The definitions of first fit, best fit and the choice of one group.
-pub mod Order
-pub mod OrderTurns
 pub mod First
 pub mod Group
 pub mod Best

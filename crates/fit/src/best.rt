@@ -3,7 +3,6 @@
 use crate::first::Choice;
 use crate::first::take_these;
 use crate::group::counted_at;
-use crate::order::sort_by;
 use eligible::chosen::Chosen;
 use eligible::chosen::KEYS;
 use eligible::chosen::first_of;
@@ -11,6 +10,7 @@ use eligible::chosen::tally;
 use eligible::chosen::with_key;
 use model::sizes::GPUS;
 use model::sizes::NODES;
+use order::sort_front;
 ghost use mathlib.Core.Path.{_≡_};
 ghost use mathlib.Core.Bool.{false};
 ghost use mathlib.Core.List.{[]};
@@ -104,7 +104,7 @@ fn fullest_first(e: Chosen, nodes: [u16; GPUS], count: usize) -> Chosen
     let counts = tally(e, nodes);
     let first = rank_keys(&counts, nodes);
     let second = wide_keys(nodes);
-    let sorted = sort_by(ids, e.count, first, second);
+    let sorted = sort_front(false, &first, &second, ids, e.count);
     let all = Chosen {
         ids: sorted,
         count: e.count,

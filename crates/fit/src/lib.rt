@@ -3,4 +3,3 @@
 pub mod best;
 pub mod first;
 pub mod group;
-pub mod order;

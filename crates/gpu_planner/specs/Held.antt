@@ -37,10 +37,32 @@ abbrev pub kindOf : ℕ → EventKind
 kindOf n = pick (eqb n 1) Arrival (pick (eqb n 2) Completion (pick (eqb n 3) Timeout Empty))
 
 unfoldable pub heldJob : Job → HeldJob
-heldJob j = record { ask = j .ask; state = stateNumber (j .state); since = j .since; start = j .start; remaining = j .remaining; waited = j .waited; evictions = j .evictions; run = j .run; timeouts = j .timeouts }
+heldJob j = record {
+  ask = j .ask;
+  state = stateNumber (j .state);
+  since = j .since;
+  start = j .start;
+  remaining = j .remaining;
+  waited =
+      j .waited;
+  evictions = j .evictions;
+  run = j .run;
+  timeouts = j .timeouts;
+}
 
 unfoldable pub jobIn : HeldJob → Job
-jobIn h = record { ask = h .ask; state = stateOf (h .state); since = h .since; start = h .start; remaining = h .remaining; waited = h .waited; evictions = h .evictions; run = h .run; timeouts = h .timeouts }
+jobIn h = record {
+  ask = h .ask;
+  state = stateOf (h .state);
+  since = h .since;
+  start = h .start;
+  remaining = h .remaining;
+  waited =
+      h .waited;
+  evictions = h .evictions;
+  run = h .run;
+  timeouts = h .timeouts;
+}
 
 unfoldable pub heldEvent : Event → HeldEvent
 heldEvent e = record { time = e .time; number = e .number; kind = kindNumber (e .kind); job = e .job; generation = e .generation }
@@ -50,8 +72,30 @@ eventIn h = record { time = h .time; number = h .number; kind = kindOf (h .kind)
 
 -- the plan, to be held
 unfoldable pub heldPlan : Plan → HeldPlan
-heldPlan p = record { setting = p .setting; gpus = p .gpus; jobs = map heldJob (p .jobs); queue = p .queue; waiting = p .waiting; events = map heldEvent (p .events); next = p .next; clock = p .clock; totals = p .totals }
+heldPlan p = record {
+  setting = p .setting;
+  gpus = p .gpus;
+  jobs = map heldJob (p .jobs);
+  queue = p .queue;
+  waiting = p .waiting;
+  events =
+      map heldEvent (p .events);
+  next = p .next;
+  clock = p .clock;
+  totals = p .totals;
+}
 
 -- and the plan in what is held
 unfoldable pub planIn : HeldPlan → Plan
-planIn h = record { setting = h .setting; gpus = h .gpus; jobs = map jobIn (h .jobs); queue = h .queue; waiting = h .waiting; events = map eventIn (h .events); next = h .next; clock = h .clock; totals = h .totals }
+planIn h = record {
+  setting = h .setting;
+  gpus = h .gpus;
+  jobs = map jobIn (h .jobs);
+  queue = h .queue;
+  waiting = h .waiting;
+  events =
+      map eventIn (h .events);
+  next = h .next;
+  clock = h .clock;
+  totals = h .totals;
+}

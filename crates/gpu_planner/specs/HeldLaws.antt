@@ -18,7 +18,8 @@ use Rattle.gpu_planner.specs.Held.{stateNumber, stateOf, kindNumber, kin
 
 module _ {A B : Type 0} (f : A → B) where
   -- a turn puts down what becomes of the entry at hand
-  pub over-turn : (old : List A) (new : List B) (i : ℕ) (d : A) → i < length old → i < length new → take (i + 1) (set new i (f (getD old i d))) ++ map f (drop (i + 1) old) ≡ take i new ++ map f (drop i old)
+  pub over-turn : (old : List A) (new : List B) (i : ℕ) (d : A) → i < length old → i < length new →
+      take (i + 1) (set new i (f (getD old i d))) ++ map f (drop (i + 1) old) ≡ take i new ++ map f (drop i old)
   over-turn old new i d h k = rw (turn-set new (map f (drop (i + 1) old)) i (f (getD old i d)) k, turn-drop old i d h)
 
   -- past the last entry all are put down

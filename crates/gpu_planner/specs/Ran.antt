@@ -44,7 +44,8 @@ module _ (trace ws : List ℕ) where
   done-short h = let e : ltb (length ws) runWords ≡ true = lt-ltb _ _ h in (rw e, rw e)
 
   -- the head in front of what the run leaves
-  pub done-ran : runWords ≤ length ws → (h : Head) (mid out : List ℕ) → h ≡ ran trace ws .head → mid ≡ ran trace ws .words → out ≡ over (headWords h) mid → Done trace ws (h .answer) out
+  pub done-ran : runWords ≤ length ws → (h : Head) (mid out : List ℕ) → h ≡ ran trace ws .head → mid ≡ ran trace ws .words →
+      out ≡ over (headWords h) mid → Done trace ws (h .answer) out
   unfolding ranAnswer ranWords
   done-ran enough h mid out e m o = let f : ltb (length ws) runWords ≡ false = le-ltb _ _ enough in (rw (f, e), rw (o, m, f, e))
 
@@ -55,6 +56,7 @@ module _ (trace ws : List ℕ) where
     ran-refused a h e = (rw (← is, a, e), rw (← is, a))
 
     -- a loaded plan runs
-    pub ran-loaded : accepted (l .answer) ≡ true → (h : Head) (out : List ℕ) → h ≡ runTo turns (l .plan) 0 0 ws .head → out ≡ runTo turns (l .plan) 0 0 ws .words → (h ≡ ran trace ws .head) × (out ≡ ran trace ws .words)
+    pub ran-loaded : accepted (l .answer) ≡ true → (h : Head) (out : List ℕ) → h ≡ runTo turns (l .plan) 0 0 ws .head →
+        out ≡ runTo turns (l .plan) 0 0 ws .words → (h ≡ ran trace ws .head) × (out ≡ ran trace ws .words)
     unfolding ran
     ran-loaded a h out e o = (rw (← is, a) e, rw (← is, a) o)

@@ -36,7 +36,9 @@ back-is at ws out =
     rw (e, append-nil out)
 
 -- the run is the turn and what follows
-turn-step : (p : Plan) (steps count : ℕ) (ws : List ℕ) → steps < turns → runTo (turns - steps) p steps count ws ≡ goesOn (stepped p (length ws - behind count) .answer) steps count (wordsOn p count ws) (λ told. runTo (turns - (steps + 1)) (stepped p (length ws - behind count) .plan) (steps + 1) told (wordsOn p count ws))
+turn-step : (p : Plan) (steps count : ℕ) (ws : List ℕ) → steps < turns →
+    runTo (turns - steps) p steps count ws ≡ goesOn (stepped p (length ws - behind count) .answer) steps count (wordsOn p count ws)
+    (λ told. runTo (turns - (steps + 1)) (stepped p (length ws - behind count) .plan) (steps + 1) told (wordsOn p count ws))
 unfolding runTo
 turn-step p steps count ws h = let e : turns - steps ≡ suc (turns - (steps + 1)) = omega arith in rw e
 
@@ -44,9 +46,11 @@ turn-step p steps count ws h = let e : turns - steps ≡ suc (turns - (steps + 1
 pub turns-over : (p : Plan) (steps count : ℕ) (ws : List ℕ) → turns ≤ steps → runTo (turns - steps) p steps count ws ≡ runTo 0 p steps count ws
 turns-over p steps count ws h = let e : turns - steps ≡ 0 = omega arith in rw e
 
-module _ (p : Plan) (steps count : ℕ) (ws out : List ℕ) (s : Stepped) (whole : Run) (is : s ≡ stepped p (length (lent (behind count) ws))) (wrote : out ≡ wordsAfter p (lent (behind count) ws)) (more : steps < turns) (inv : runTo (turns - steps) p steps count ws ≡ whole) where
+module _ (p : Plan) (steps count : ℕ) (ws out : List ℕ) (s : Stepped) (whole : Run) (is : s ≡ stepped p (length (lent (behind count) ws)))
+    (wrote : out ≡ wordsAfter p (lent (behind count) ws)) (more : steps < turns) (inv : runTo (turns - steps) p steps count ws ≡ whole) where
   -- what follows a step's answer is the whole
-  pub turn-is : goesOn (s .answer) steps count (back (behind count) ws out) (λ told. runTo (turns - (steps + 1)) (s .plan) (steps + 1) told (back (behind count) ws out)) ≡ whole
+  pub turn-is : goesOn (s .answer) steps count (back (behind count) ws out)
+      (λ told. runTo (turns - (steps + 1)) (s .plan) (steps + 1) told (back (behind count) ws out)) ≡ whole
   turn-is =
       let n : length (lent (behind count) ws) ≡ length ws - behind count = ap length (lent-is (behind count) ws) ∙ length-drop (behind count) ws in
       let w : back (behind count) ws out ≡ wordsOn p count ws = back-is (behind count) ws out ∙ rw (wrote, lent-is (behind count) ws) in
@@ -60,22 +64,28 @@ module _ (p : Plan) (steps count : ℕ) (ws out : List ℕ) (s : Stepped) (whole
       omega (arith, accepted-for p (lent (behind count) ws) z .0, ap length (lent-is (behind count) ws), length-drop (behind count) ws)
 
   -- it goes on, and the decisions stand inside the words
-  pub turn-on : (n m : ℕ) → s .answer ≡ Decisions n → m ≡ min n most → length (back (behind count) ws out) ≡ length ws → behind count ≤ length ws → (behind (count + m) ≤ length (back (behind count) ws out)) × (runTo (turns - (steps + 1)) (s .plan) (steps + 1) (count + m) (back (behind count) ws out) ≡ whole)
+  pub turn-on : (n m : ℕ) → s .answer ≡ Decisions n → m ≡ min n most → length (back (behind count) ws out) ≡ length ws → behind count ≤ length ws →
+      (behind (count + m) ≤ length (back (behind count) ws out)) × (runTo (turns - (steps + 1)) (s .plan) (steps + 1) (count + m) (back (behind count) ws out) ≡ whole)
   turn-on n m e f l b = (omega (arith, lent-enough n e), rw f (rw e at turn-is))
 
 -- the same of a step over lent tables, which hold q after it
-module _ (p : Plan) (steps count : ℕ) (ws out : List ℕ) (a : Taken) (q : Plan) (whole : Run) (told : Left p (lent (behind count) ws) a q out) (more : steps < turns) (inv : runTo (turns - steps) p steps count ws ≡ whole) where
+module _ (p : Plan) (steps count : ℕ) (ws out : List ℕ) (a : Taken) (q : Plan) (whole : Run) (told : Left p (lent (behind count) ws) a q out)
+    (more : steps < turns) (inv : runTo (turns - steps) p steps count ws ≡ whole) where
   abbrev wholeStep : Stepped
   wholeStep = stepped p (length (lent (behind count) ws))
 
-  pub lent-turn-is : goesOn a steps count (back (behind count) ws out) (λ told. runTo (turns - (steps + 1)) (wholeStep .plan) (steps + 1) told (back (behind count) ws out)) ≡ whole
+  pub lent-turn-is : goesOn a steps count (back (behind count) ws out)
+      (λ told. runTo (turns - (steps + 1)) (wholeStep .plan) (steps + 1) told (back (behind count) ws out)) ≡ whole
   lent-turn-is = rw (told .0) (turn-is p steps count ws out wholeStep whole refl (told .1 .1) more inv)
 
-  pub lent-turn-on : (n m : ℕ) → a ≡ Decisions n → m ≡ min n most → length (back (behind count) ws out) ≡ length ws → behind count ≤ length ws → (behind (count + m) ≤ length (back (behind count) ws out)) × (runTo (turns - (steps + 1)) q (steps + 1) (count + m) (back (behind count) ws out) ≡ whole)
+  pub lent-turn-on : (n m : ℕ) → a ≡ Decisions n → m ≡ min n most → length (back (behind count) ws out) ≡ length ws → behind count ≤ length ws →
+      (behind (count + m) ≤ length (back (behind count) ws out)) × (runTo (turns - (steps + 1)) q (steps + 1) (count + m) (back (behind count) ws out) ≡ whole)
   lent-turn-on n m e f l b =
       let s : wholeStep .answer ≡ Decisions n = sym (told .0) ∙ e in
       let t : isTaken (wholeStep .answer) ≡ true = rw s in
-      let o : (behind (count + m) ≤ length (back (behind count) ws out)) × (runTo (turns - (steps + 1)) (wholeStep .plan) (steps + 1) (count + m) (back (behind count) ws out) ≡ whole) = turn-on p steps count ws out wholeStep whole refl (told .1 .1) more inv n m s f l b in
+      let o : (behind (count + m) ≤ length (back (behind count) ws out)) ×
+      (runTo (turns - (steps + 1)) (wholeStep .plan) (steps + 1) (count + m) (back (behind count) ws out) ≡ whole) =
+      turn-on p steps count ws out wholeStep whole refl (told .1 .1) more inv n m s f l b in
       let k : q ≡ wholeStep .plan = told .1 .0 ∙ step-taken p (lent (behind count) ws) t in
       (o .0, rw k (o .1))
 

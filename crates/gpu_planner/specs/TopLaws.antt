@@ -28,5 +28,7 @@ first-top events jobs n e i t h =
     let room : List Event = eventsOf (replicate Sizes.events (replicate 5 0)) in
     let written : List Event = arrivalsFrom 0 (take n jobs) in
     let few : 0 + length written ≤ i = omega (arith, arrivals-length 0 (take n jobs), length-take n jobs) in
-    let empty : eventAt room i ≡ emptyEvent = ap (λ (l : List Event). eventAt l i) (same-rows eventOf Sizes.events (replicate 5 0) emptyEvent zeros-event) ∙ getD-replicate Sizes.events i emptyEvent emptyEvent h in
+    let empty : eventAt room i ≡ emptyEvent =
+    ap (λ (l : List Event). eventAt l i) (same-rows eventOf Sizes.events (replicate 5 0) emptyEvent zeros-event)
+    ∙ getD-replicate Sizes.events i emptyEvent emptyEvent h in
     ap used (ap (λ (l : List Event). eventAt l i) e ∙ sets-past room 0 written i emptyEvent few ∙ empty)

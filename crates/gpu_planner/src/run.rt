@@ -49,7 +49,8 @@ pub fn run(
     requires { ⌜ 4 ≤ length (now words) ⌝ }
     requires { ⌜ freeFrom first (eventsOf (now room)) ⌝ }
     ensures { λ r. ⌜ r ≡ runTo turns (wholePlan loaded (now (gpus .entry)) (now (jobs .entry)) (now (room .entry))) 0 0 (now (words .entry)) .head ⌝ }
-    ensures { λ _. ⌜ now (words .exit) ≡ runTo turns (wholePlan loaded (now (gpus .entry)) (now (jobs .entry)) (now (room .entry))) 0 0 (now (words .entry)) .words ⌝ }
+    ensures { λ _. ⌜ now (words .exit) ≡ runTo turns (wholePlan loaded (now (gpus .entry)) (now (jobs .entry)) (now (room .entry))) 0 0
+        (now (words .entry)) .words ⌝ }
 {
     let mut rest = loaded;
     let mut top = first;

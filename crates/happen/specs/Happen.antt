@@ -33,7 +33,18 @@ use Rattle.happen.specs.declared.Point.{Point}
 
 -- the plan, with the tables that were lent
 abbrev pub wholePlan : Rest → List (List ℕ) → List (List ℕ) → List (List ℕ) → Plan
-wholePlan r gpus jobs room = record { setting = r .setting; gpus = gpusOf gpus; jobs = jobsOf jobs; queue = r .queue; waiting = r .waiting; events = eventsOf room; next = r .next; clock = r .clock; totals = r .totals }
+wholePlan r gpus jobs room = record {
+  setting = r .setting;
+  gpus = gpusOf gpus;
+  jobs = jobsOf jobs;
+  queue = r .queue;
+  waiting = r .waiting;
+  events =
+      eventsOf room;
+  next = r .next;
+  clock = r .clock;
+  totals = r .totals;
+}
 
 abbrev pub wholeMoment : Point → List (List ℕ) → List (List ℕ) → List (List ℕ) → Moment
 wholeMoment m gpus jobs room = record { plan = wholePlan (m .rest) gpus jobs room; log = m .log; ok = m .ok; goes = m .goes }
@@ -79,7 +90,18 @@ joinsRest r id =
     }
 
 abbrev pub withAhead : Plan → Ahead → Plan
-withAhead p a = record { setting = p .setting; gpus = p .gpus; jobs = p .jobs; queue = p .queue; waiting = p .waiting; events = a .events; next = a .next; clock = p .clock; totals = p .totals }
+withAhead p a = record {
+  setting = p .setting;
+  gpus = p .gpus;
+  jobs = p .jobs;
+  queue = p .queue;
+  waiting = p .waiting;
+  events = a .events;
+  next =
+      a .next;
+  clock = p .clock;
+  totals = p .totals;
+}
 
 -- Arrival: the job waits since the clock; a gang job with a timeout gets one at arrival + timeout.
 unfoldable pub arrives : Plan → ℕ → Moment
@@ -93,7 +115,18 @@ unfoldable pub completes : Plan → ℕ → Moment
 completes p id =
     let j = jobOf p id in
     said
-    (record { setting = p .setting; gpus = map (freed (plusOne id)) (p .gpus); jobs = set (p .jobs) id (Life.ends j); queue = p .queue; waiting = p .waiting; events = p .events; next = p .next; clock = p .clock; totals = p .totals })
+    (record {
+      setting = p .setting;
+      gpus = map (freed (plusOne id)) (p .gpus);
+      jobs = set (p .jobs) id (Life.ends j);
+      queue = p .queue;
+      waiting =
+          p .waiting;
+      events = p .events;
+      next = p .next;
+      clock = p .clock;
+      totals = p .totals;
+    })
     true Completed id (amount (j .ask))
 
 -- Timeout: waited grows, the job has failed and leaves the queue.
@@ -103,7 +136,18 @@ timesOut p id =
     let jobs = set (p .jobs) id j in
     let left = stillWaiting jobs (p .queue) (p .waiting) in
     said
-    (record { setting = p .setting; gpus = p .gpus; jobs = jobs; queue = pad Sizes.jobs 0 left; waiting = length left; events = p .events; next = p .next; clock = p .clock; totals = p .totals })
+    (record {
+      setting = p .setting;
+      gpus = p .gpus;
+      jobs = jobs;
+      queue = pad Sizes.jobs 0 left;
+      waiting = length left;
+      events = p .events;
+      next =
+          p .next;
+      clock = p .clock;
+      totals = p .totals;
+    })
     (permitted (j .waited)) Failed id 0
 
 -- the job runs with that run generation

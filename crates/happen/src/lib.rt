@@ -113,7 +113,8 @@ fn arrive(
     rest: Rest,
     id: u16,
 ) -> Point
-    ensures { λ r. ⌜ ((gpus : List (List ℕ)) → wholeMoment r gpus (now (jobs .exit)) (now (room .exit)) ≡ arrives (wholePlan rest gpus (now (jobs .entry)) (now (room .entry))) id) ⌝ }
+    ensures { λ r. ⌜ ((gpus : List (List ℕ)) → wholeMoment r gpus (now (jobs .exit)) (now (room .exit))
+        ≡ arrives (wholePlan rest gpus (now (jobs .entry)) (now (room .entry))) id) ⌝ }
 {
     let j = wait(read_job(jobs, wide_id(id)), rest.clock);
     let ask = j.ask;
@@ -135,7 +136,8 @@ fn complete(
     rest: Rest,
     id: u16,
 ) -> Point
-    ensures { λ r. ⌜ ((room : List (List ℕ)) → wholeMoment r (now (gpus .exit)) (now (jobs .exit)) room ≡ completes (wholePlan rest (now (gpus .entry)) (now (jobs .entry)) room) id) ⌝ }
+    ensures { λ r. ⌜ ((room : List (List ℕ)) → wholeMoment r (now (gpus .exit)) (now (jobs .exit)) room
+        ≡ completes (wholePlan rest (now (gpus .entry)) (now (jobs .entry)) room) id) ⌝ }
 {
     let j = read_job(jobs, wide_id(id));
     let ask = j.ask;
@@ -146,7 +148,8 @@ fn complete(
 
 // The job has failed and leaves the queue; its waited has to be permitted.
 fn time_out(jobs: &mut [[u64; ROW]; JOBS], rest: Rest, id: u16) -> Point
-    ensures { λ r. ⌜ ((gpus room : List (List ℕ)) → wholeMoment r gpus (now (jobs .exit)) room ≡ timesOut (wholePlan rest gpus (now (jobs .entry)) room) id) ⌝ }
+    ensures { λ r. ⌜ ((gpus room : List (List ℕ)) → wholeMoment r gpus (now (jobs .exit)) room
+        ≡ timesOut (wholePlan rest gpus (now (jobs .entry)) room) id) ⌝ }
 {
     let queue = rest.queue;
     let j = fail(read_job(jobs, wide_id(id)), rest.clock);
@@ -179,7 +182,8 @@ pub fn on_arrival(
     rest: Rest,
     e: Event,
 ) -> Point
-    ensures { λ r. ⌜ ((gpus : List (List ℕ)) → wholeMoment r gpus (now (jobs .exit)) (now (room .exit)) ≡ arrived (wholePlan rest gpus (now (jobs .entry)) (now (room .entry))) e) ⌝ }
+    ensures { λ r. ⌜ ((gpus : List (List ℕ)) → wholeMoment r gpus (now (jobs .exit)) (now (room .exit))
+        ≡ arrived (wholePlan rest gpus (now (jobs .entry)) (now (room .entry))) e) ⌝ }
 {
     arrive(jobs, room, rest, e.job)
 }
@@ -190,7 +194,8 @@ pub fn on_completion(
     rest: Rest,
     e: Event,
 ) -> Point
-    ensures { λ r. ⌜ ((room : List (List ℕ)) → wholeMoment r (now (gpus .exit)) (now (jobs .exit)) room ≡ completed (wholePlan rest (now (gpus .entry)) (now (jobs .entry)) room) e) ⌝ }
+    ensures { λ r. ⌜ ((room : List (List ℕ)) → wholeMoment r (now (gpus .exit)) (now (jobs .exit)) room
+        ≡ completed (wholePlan rest (now (gpus .entry)) (now (jobs .entry)) room) e) ⌝ }
 {
     if is_of_run(read_job(jobs, wide_id(e.job)), e.generation) {
         return complete(gpus, jobs, rest, e.job);
@@ -199,7 +204,8 @@ pub fn on_completion(
 }
 
 pub fn on_timeout(jobs: &mut [[u64; ROW]; JOBS], rest: Rest, e: Event) -> Point
-    ensures { λ r. ⌜ ((gpus room : List (List ℕ)) → wholeMoment r gpus (now (jobs .exit)) room ≡ timedOut (wholePlan rest gpus (now (jobs .entry)) room) e) ⌝ }
+    ensures { λ r. ⌜ ((gpus room : List (List ℕ)) → wholeMoment r gpus (now (jobs .exit)) room
+        ≡ timedOut (wholePlan rest gpus (now (jobs .entry)) room) e) ⌝ }
 {
     if is_of_timeout(read_job(jobs, wide_id(e.job)), e.generation) {
         return time_out(jobs, rest, e.job);

@@ -108,7 +108,8 @@ allDecided jobs = sumOver decidedOf jobs
 pub all-decided-few : (n : ℕ) (jobs : List Job) → Rest n jobs → ((k : ℕ) → JobOk (jobAt jobs k)) → allDecided jobs ≤ 9 * n
 all-decided-few n jobs r o =
     let e : allDecided jobs ≡ sumOver decidedOf (take n jobs) = sum-first decidedOf n jobs noJob (λ k h. ap decidedOf (r k h) ∙ decided-none) in
-    let a : All (λ j. decidedOf j ≤ 9) (take n jobs) = all-take (λ j. decidedOf j ≤ 9) n jobs (all-of (λ j. decidedOf j ≤ 9) jobs noJob (λ i b. decided-few (jobAt jobs i) (o i))) in
+    let a : All (λ j. decidedOf j ≤ 9) (take n jobs) =
+    all-take (λ j. decidedOf j ≤ 9) n jobs (all-of (λ j. decidedOf j ≤ 9) jobs noJob (λ i b. decided-few (jobAt jobs i) (o i))) in
     omega (arith, e, sum-most decidedOf 9 (take n jobs) a, length-take n jobs)
 
 -- a change of one job that is told
@@ -118,13 +119,16 @@ decided-set jobs k j b e = omega (arith, sum-set decidedOf jobs k j noJob b, e)
 -- ---- the pass
 
 -- jobs leave one after the other, each told
-decided-leave : (clock : Float) (jobs : List Job) (vs : List ℕ) → length jobs ≡ 128 → All (Runs jobs) vs → Distinct vs → allDecided (evictedAll clock jobs vs) ≡ allDecided jobs + length vs
+decided-leave : (clock : Float) (jobs : List Job) (vs : List ℕ) → length jobs ≡ 128 → All (Runs jobs) vs → Distinct vs →
+    allDecided (evictedAll clock jobs vs) ≡ allDecided jobs + length vs
 unfolding evictedAll
 decided-leave clock jobs [] l m d = omega arith
 decided-leave clock jobs (v ∷ vs) l m d =
     let j : Job = Life.evicted (jobAt jobs v) clock in
-    let one : allDecided (set jobs v j) ≡ allDecided jobs + 1 = decided-set jobs v j (omega (arith, l, m .0 .0)) (decided-evicted (jobAt jobs v) clock (m .0 .1) (m .0 .2)) in
-    let rest : allDecided (evictedAll clock (set jobs v j) vs) ≡ allDecided (set jobs v j) + length vs = decided-leave clock (set jobs v j) vs (length-set jobs v j ∙ l) (runs-other jobs v j vs (d .0) (m .1)) (d .1) in
+    let one : allDecided (set jobs v j) ≡ allDecided jobs + 1 =
+    decided-set jobs v j (omega (arith, l, m .0 .0)) (decided-evicted (jobAt jobs v) clock (m .0 .1) (m .0 .2)) in
+    let rest : allDecided (evictedAll clock (set jobs v j) vs) ≡ allDecided (set jobs v j) + length vs =
+    decided-leave clock (set jobs v j) vs (length-set jobs v j ∙ l) (runs-other jobs v j vs (d .0) (m .1)) (d .1) in
     omega (arith, rest, one)
 
 -- beyond what was told before, one for each victim
@@ -137,11 +141,14 @@ module _ (s : Setting) (clock : Float) (base : ℕ) where
   place-decided p id l g =
       sum-kept decidedOf (p .jobs) id (Life.placed (jobAt (p .jobs) id)) noJob (decided-placed (jobAt (p .jobs) id) (l .waiting)) ∙ g
 
-  clear-decided : (p : Pass) (id : ℕ) (vs : List ℕ) → Standing p → All (MayLeave s clock p id) vs → Distinct vs → PassDecided base p → PassDecided base (cleared clock p id vs)
+  clear-decided : (p : Pass) (id : ℕ) (vs : List ℕ) → Standing p → All (MayLeave s clock p id) vs → Distinct vs → PassDecided base p →
+      PassDecided base (cleared clock p id vs)
   clear-decided p id vs so m d g =
       let rs : All (Runs (p .jobs)) vs = all-weaken (MayLeave s clock p id) (Runs (p .jobs)) vs (λ v q. (q .0, q .2 .runs-now, q .2 .few)) m in
-      let e : allDecided (cleared clock p id vs .jobs) ≡ allDecided (p .jobs) + length vs = ap allDecided (cleared-jobs clock p id vs) ∙ decided-leave clock (p .jobs) vs (so .jobs) rs d in
-      let b : length (victimsOf (cleared clock p id vs .line)) ≡ length (victimsOf (p .line)) + length vs = ap length (clear-behind clock p so id vs (may-run s clock p id vs m) d) ∙ length-append (victimsOf (p .line)) vs in
+      let e : allDecided (cleared clock p id vs .jobs) ≡ allDecided (p .jobs) + length vs = ap allDecided (cleared-jobs clock p id vs)
+      ∙ decided-leave clock (p .jobs) vs (so .jobs) rs d in
+      let b : length (victimsOf (cleared clock p id vs .line)) ≡ length (victimsOf (p .line)) + length vs =
+      ap length (clear-behind clock p so id vs (may-run s clock p id vs m) d) ∙ length-append (victimsOf (p .line)) vs in
       omega (arith, e, b, g)
 
   -- so a pass keeps it
@@ -151,12 +158,16 @@ module _ (s : Setting) (clock : Float) (base : ℕ) where
 
 -- ---- the starts
 
-pub starts-decided : (options : Options) (clock : Float) (b : Begun) (ps : List Placing) → length (b .jobs) ≡ 128 → Distinct (jobsOf ps) → All (ToStart (b .jobs)) (jobsOf ps) → allDecided (begunAll options clock b ps .jobs) ≡ allDecided (b .jobs) + length ps
+pub starts-decided : (options : Options) (clock : Float) (b : Begun) (ps : List Placing) → length (b .jobs) ≡ 128 → Distinct (jobsOf ps) →
+    All (ToStart (b .jobs)) (jobsOf ps) → allDecided (begunAll options clock b ps .jobs) ≡ allDecided (b .jobs) + length ps
 unfolding begunAll
 starts-decided options clock b [] l d m = omega arith
 starts-decided options clock b (p ∷ ps) l d m =
     let j : Job = Life.started (jobOf b p) (startOf options clock b p) in
     let e : Begin.begun options clock b p .jobs ≡ set (b .jobs) (p .job) j = begun-jobs options clock b p in
-    let one : allDecided (Begin.begun options clock b p .jobs) ≡ allDecided (b .jobs) + 1 = ap allDecided e ∙ decided-set (b .jobs) (p .job) j (omega (arith, l, m .0 .0)) (decided-started (jobOf b p) (startOf options clock b p) (m .0 .1) (m .0 .2)) in
-    let rest : allDecided (begunAll options clock (Begin.begun options clock b p) ps .jobs) ≡ allDecided (Begin.begun options clock b p .jobs) + length ps = starts-decided options clock (Begin.begun options clock b p) ps (ap length e ∙ length-set (b .jobs) (p .job) j ∙ l) (d .1) (still-to-start options clock b p (jobsOf ps) (d .0) (m .1)) in
+    let one : allDecided (Begin.begun options clock b p .jobs) ≡ allDecided (b .jobs) + 1 = ap allDecided e
+    ∙ decided-set (b .jobs) (p .job) j (omega (arith, l, m .0 .0)) (decided-started (jobOf b p) (startOf options clock b p) (m .0 .1) (m .0 .2)) in
+    let rest : allDecided (begunAll options clock (Begin.begun options clock b p) ps .jobs) ≡ allDecided (Begin.begun options clock b p .jobs) +
+    length ps = starts-decided options clock (Begin.begun options clock b p) ps (ap length e ∙ length-set (b .jobs) (p .job) j ∙ l) (d .1)
+    (still-to-start options clock b p (jobsOf ps) (d .0) (m .1)) in
     omega (arith, rest, one)

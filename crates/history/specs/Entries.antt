@@ -6,7 +6,7 @@ use mathlib.Core.List.{List, [], _∷_}
 use Prim.Native.Nat.{ℕ, _+_, _≤_, _<_}
 use native.Mathlib.Omega.{arith}
 use lib.Dec.{eqb}
-use lib.ListN.{length, getD, set, length-set}
+use lib.ListN.{length, set}
 use Rattle.laws.specs.Tests.{split, never-both, le-or-lt}
 use Rattle.laws.specs.Tables.{past-read}
 use Rattle.laws.specs.Lists.{All, all-of}
@@ -103,7 +103,8 @@ module _ (events : List Event) (size : length events ≡ 1152) where
   pub taken-use : (i : ℕ) → i < 1152 → used (eventAt events i) ≡ true → inUse (taken events i) + 1 ≡ inUse events
   unfolding taken
   taken-use i b u =
-      let s : sumOver usedOne (set events i emptyEvent) + usedOne (eventAt events i) ≡ sumOver usedOne events + usedOne emptyEvent = sum-set usedOne events i emptyEvent emptyEvent (omega arith) in
+      let s : sumOver usedOne (set events i emptyEvent) + usedOne (eventAt events i) ≡ sumOver usedOne events + usedOne emptyEvent =
+      sum-set usedOne events i emptyEvent emptyEvent (omega arith) in
       let o : usedOne (eventAt events i) ≡ 1 = rw u in
       let z : usedOne emptyEvent ≡ 0 = empty-weighs 0 .0 in
       omega (arith, s, o, z)
@@ -112,7 +113,8 @@ module _ (events : List Event) (size : length events ≡ 1152) where
   pub taken-arriving : (i k : ℕ) → i < 1152 → arriving k (taken events i) + arrivalOne k (eventAt events i) ≡ arriving k events
   unfolding taken
   taken-arriving i k b =
-      let s : sumOver (arrivalOne k) (set events i emptyEvent) + arrivalOne k (eventAt events i) ≡ sumOver (arrivalOne k) events + arrivalOne k emptyEvent = sum-set (arrivalOne k) events i emptyEvent emptyEvent (omega arith) in
+      let s : sumOver (arrivalOne k) (set events i emptyEvent) + arrivalOne k (eventAt events i) ≡ sumOver (arrivalOne k) events + arrivalOne k
+      emptyEvent = sum-set (arrivalOne k) events i emptyEvent emptyEvent (omega arith) in
       omega (arith, s, empty-weighs k .1)
 
   -- an entry that holds an event is in the room

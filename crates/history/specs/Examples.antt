@@ -34,7 +34,23 @@ use Rattle.preemptive.specs.declared.prefix.Preempted.{Preempted}
 abbrev job : ℕ → ℕ → ℕ → Bool → ℕ → ℕ → JobState → Job
 job tenant priority count gang nodes evictions state =
     record {
-      ask = record { arrival = zero·0; duration = one·0; priority = priority; count = count; memory = zero·0; kind = 0; site = 0; tenant = tenant; gang = gang; nodes = nodes; network = false; timeout = zero·0; profile = 0; slices = 0 };
+      ask = record {
+        arrival = zero·0;
+        duration = one·0;
+        priority = priority;
+        count = count;
+        memory = zero·0;
+        kind = 0;
+        site = 0;
+        tenant =
+            tenant;
+        gang = gang;
+        nodes = nodes;
+        network = false;
+        timeout = zero·0;
+        profile = 0;
+        slices = 0;
+      };
       state = state;
       since = zero·0;
       start = zero·0;
@@ -47,7 +63,18 @@ job tenant priority count gang nodes evictions state =
 
 -- a GPU on a node, owned by a job (its number plus 1, 0 for nobody)
 abbrev card : ℕ → ℕ → Gpu
-card node owner = record { node = node; kind = 0; memory = zero·0; group = 0; mig = false; owner = owner; profile = 0; slices = 0; owners = 0 ∷ 0 ∷ 0 ∷ 0 ∷ 0 ∷ 0 ∷ 0 ∷ [] }
+card node owner = record {
+  node = node;
+  kind = 0;
+  memory = zero·0;
+  group = 0;
+  mig = false;
+  owner = owner;
+  profile = 0;
+  slices = 0;
+  owners =
+      0 ∷ 0 ∷ 0 ∷ 0 ∷ 0 ∷ 0 ∷ 0 ∷ [];
+}
 
 -- so many nodes, GPUs and jobs; tenant 0's quota is kept plus 1, 0 for none
 abbrev house : ℕ → ℕ → ℕ → ℕ → Setting
@@ -131,5 +158,6 @@ expected =
     }
 
 pub table : results ≡ expected
-unfolding candidates candidatesByNumber those candidate sort insert preempted made shortest first freedAll evictedAll freed placeable firstCause withinQuota usage sumOver chargeTo chargeOf holding resourceCause whyNotHere whyNot whyNotGang eligibles eligible eq ofBits pad
+unfolding candidates candidatesByNumber those candidate sort insert preempted made shortest first freedAll evictedAll freed placeable firstCause
+    withinQuota usage sumOver chargeTo chargeOf holding resourceCause whyNotHere whyNot whyNotGang eligibles eligible eq ofBits pad
 table = refl

@@ -1,31 +1,27 @@
 -- What holds of the job table and the decisions told so far, all along; each small change of one job keeps it.
-use mathlib.Core.Path.{_≡_, refl, sym, ap, _∙_}
+use mathlib.Core.Path.{_≡_, sym, ap, _∙_}
 use mathlib.Core.Logic.{_⊎_, ⊎-elim}
 use mathlib.Core.Bool.{Bool, true, false, _&&_, _||_}
 use mathlib.Core.List.{List, [], _∷_, _++_}
-use Prim.Native.Nat.{ℕ, zero, suc, _+_, _-_, _≤_, _<_, _%_, _^_, min}
+use Prim.Native.Nat.{ℕ, _+_, _-_, _≤_, _<_, min}
 use native.Mathlib.Omega.{arith}
-use lib.Dec.{eqb, leb, ltb}
+use lib.Dec.{eqb}
 use lib.ListN.{length, getD, take, set, length-set, length-append}
 use lib.Seq.{take-all, take-append-le, take-set-lt, take-set-le, getD-take}
-use lib.Ieee.{Float}
-use borrow.Author.Tests.{eqb-true, eq-eqb, ne-eqb, leb-true}
 use Rattle.laws.specs.Choice.{pick}
-use Rattle.laws.specs.Tests.{split, never-both, and-both, le-or-lt, eq-or-ne}
+use Rattle.laws.specs.Tests.{le-or-lt}
 use Rattle.laws.specs.Lists.{All, all-snoc, set-at}
 use Rattle.laws.specs.Sums.{sumOver, bit, sum-set-le}
+use Rattle.laws.specs.Tables.{take-least}
 use Rattle.model.specs.Job.{noJob}
 use Rattle.model.specs.declared.job.Job.{Job}
 use Rattle.model.specs.declared.job.JobState.{JobState}
 use Rattle.model.specs.declared.job.JobState.the-variants.{Pending, Waiting, Placed, Running, Finished, Failed}
 use Rattle.model.specs.declared.setting.Setting.{Setting}
-use Rattle.log.specs.declared.Kind.{Kind}
-use Rattle.log.specs.declared.Kind.the-variants as Kinds
 use Rattle.log.specs.declared.Decision.{Decision}
-use Rattle.mig.specs.More.{take-least}
 use Rattle.cluster.specs.Usage.{runs, running, holding, chargeOf, chargeTo, usage}
-use Rattle.resource.specs.Quota.{keptQuota, withinQuota}
-use Rattle.history.specs.Told.{isEvicted, isStarted, toldOf, evictionsOf, startsOf, saysRuns, runsAfter, sumTo, heldOne, heldAfter}
+use Rattle.resource.specs.Quota.{keptQuota}
+use Rattle.history.specs.Told.{isEvicted, isStarted, evictionsOf, startsOf, saysRuns, runsAfter, sumTo, heldOne, heldAfter}
 use Rattle.history.specs.ToldLaws.{told-here, told-other, runs-here, runs-other, sum-front, sum-below}
 
 abbrev pub jobAt : List Job → ℕ → Job
@@ -39,7 +35,8 @@ Fits kept used = 0 < kept → used < kept
 
 -- an eviction is for a job of the victim's tenant or of none, where preemption is quota-aware
 abbrev pub Own : Setting → List Job → Decision → Type 0
-Own s jobs d = isEvicted (d .kind) ≡ true → s .options .aware ≡ true → (jobAt jobs (d .other) .ask .tenant ≡ 0) ⊎ (jobAt jobs (d .job) .ask .tenant ≡ jobAt jobs (d .other) .ask .tenant)
+Own s jobs d = isEvicted (d .kind) ≡ true → s .options .aware ≡ true →
+    (jobAt jobs (d .other) .ask .tenant ≡ 0) ⊎ (jobAt jobs (d .job) .ask .tenant ≡ jobAt jobs (d .other) .ask .tenant)
 
 -- What is promised after the decisions h; jobs are the loaded ones.
 pub record Now (s : Setting) (jobs : List Job) (h : List Decision) : Type 0 where
@@ -114,7 +111,8 @@ held-one false true false c = omega arith
 held-one false false true c = omega arith
 held-one false false false c = omega arith
 
-module _ (s : Setting) (jobs₀ jobs : List Job) (h : List Decision) (size : length jobs ≡ 128) (asks : (k : ℕ) → jobAt jobs k .ask ≡ jobAt jobs₀ k .ask) (told : (k : ℕ) → runsAfter h k ≡ running (jobAt jobs k)) where
+module _ (s : Setting) (jobs₀ jobs : List Job) (h : List Decision) (size : length jobs ≡ 128)
+    (asks : (k : ℕ) → jobAt jobs k .ask ≡ jobAt jobs₀ k .ask) (told : (k : ℕ) → runsAfter h k ≡ running (jobAt jobs k)) where
   -- a job holds by the decisions what it costs at most
   held-below : (tenant k : ℕ) → heldOne jobs₀ tenant h k ≤ chargeTo tenant (jobAt jobs k)
   unfolding chargeTo chargeOf holding
@@ -126,23 +124,29 @@ module _ (s : Setting) (jobs₀ jobs : List Job) (h : List Decision) (size : len
   unfolding usage
   held-usage tenant =
       let n : ℕ = min (s .jobs) 128 in
-      let a : sumTo (heldOne jobs₀ tenant h) n ≤ sumTo (λ k. chargeTo tenant (jobAt jobs k)) n = sum-below (heldOne jobs₀ tenant h) (λ k. chargeTo tenant (jobAt jobs k)) n (held-below tenant) in
+      let a : sumTo (heldOne jobs₀ tenant h) n ≤ sumTo (λ k. chargeTo tenant (jobAt jobs k)) n =
+      sum-below (heldOne jobs₀ tenant h) (λ k. chargeTo tenant (jobAt jobs k)) n (held-below tenant) in
       let b : sumTo (λ k. chargeTo tenant (jobAt jobs k)) n ≡ sumOver (chargeTo tenant) (take n jobs) = sum-front (chargeTo tenant) jobs n noJob (omega arith) in
-      let c : take n jobs ≡ take (s .jobs) jobs = take-least (s .jobs) 128 jobs size in
+      let c : take n jobs ≡ take (s .jobs) jobs = take-least (s .jobs) 128 jobs (omega arith) in
       omega (arith, a, b, ap (sumOver (chargeTo tenant)) c)
 
 -- what is promised now follows
-pub good-now : (s : Setting) (jobs₀ jobs : List Job) (h : List Decision) → length jobs ≡ 128 → ((k : ℕ) → jobAt jobs k .ask ≡ jobAt jobs₀ k .ask) → ((k : ℕ) → JobOk (jobAt jobs k)) → ((k : ℕ) → evictionsOf k h ≡ jobAt jobs k .evictions) → ((k : ℕ) → startsOf k h ≡ jobAt jobs k .run) → ((k : ℕ) → runsAfter h k ≡ running (jobAt jobs k)) → ((tenant : ℕ) → 0 < tenant → Fits (keptQuota s tenant) (usage jobs (s .jobs) tenant)) → All (Own s jobs₀) h → Now s jobs₀ h
+pub good-now : (s : Setting) (jobs₀ jobs : List Job) (h : List Decision) → length jobs ≡ 128 → ((k : ℕ) → jobAt jobs k .ask ≡ jobAt jobs₀ k .ask) →
+    ((k : ℕ) → JobOk (jobAt jobs k)) → ((k : ℕ) → evictionsOf k h ≡ jobAt jobs k .evictions) → ((k : ℕ) → startsOf k h ≡ jobAt jobs k .run) →
+    ((k : ℕ) → runsAfter h k ≡ running (jobAt jobs k)) → ((tenant : ℕ) → 0 < tenant → Fits (keptQuota s tenant) (usage jobs (s .jobs) tenant)) →
+    All (Own s jobs₀) h → Now s jobs₀ h
 good-now s jobs₀ jobs h size asks each evicted started told within own =
     record {
-      quota = λ tenant z f. let w : usage jobs (s .jobs) tenant < keptQuota s tenant = within tenant z f in omega (arith, w, held-usage s jobs₀ jobs h size asks told tenant);
+      quota = λ tenant z f. let w : usage jobs (s .jobs) tenant < keptQuota s tenant =
+          within tenant z f in omega (arith, w, held-usage s jobs₀ jobs h size asks told tenant);
       three = λ k. omega (arith, evicted k, each k .few);
       runs-few = λ k. let b : begun (jobAt jobs k .state) ≤ 1 = begun-most (jobAt jobs k .state) in omega (arith, evicted k, started k, each k .run-is);
       own = own;
     }
 
 -- what holds at each front of the decisions so far, and after one more, holds at each front then
-fronts : (s : Setting) (jobs₀ : List Job) (h : List Decision) (d : Decision) → ((m : ℕ) → Now s jobs₀ (take m h)) → Now s jobs₀ (h ++ (d ∷ [])) → (m : ℕ) → Now s jobs₀ (take m (h ++ (d ∷ [])))
+fronts : (s : Setting) (jobs₀ : List Job) (h : List Decision) (d : Decision) → ((m : ℕ) → Now s jobs₀ (take m h)) → Now s jobs₀ (h ++ (d ∷ [])) →
+    (m : ℕ) → Now s jobs₀ (take m (h ++ (d ∷ [])))
 fronts s jobs₀ h d a b m =
     ⊎-elim
     (λ l. rw (take-append-le m h (d ∷ []) l) (a m))
@@ -166,7 +170,8 @@ module _ (s : Setting) (jobs₀ jobs : List Job) (h : List Decision) (g : Good s
   at-each P b p f i = set-at jobs k j noJob P (rw (g .size) b) p f i
 
   -- a change that no decision tells
-  pub quiet : k < 128 → j .ask ≡ jobAt jobs k .ask → JobOk j → j .evictions ≡ jobAt jobs k .evictions → j .run ≡ jobAt jobs k .run → running j ≡ running (jobAt jobs k) → ((tenant : ℕ) → 0 < tenant → Fits (keptQuota s tenant) (usage (set jobs k j) (s .jobs) tenant)) → Good s jobs₀ (set jobs k j) h
+  pub quiet : k < 128 → j .ask ≡ jobAt jobs k .ask → JobOk j → j .evictions ≡ jobAt jobs k .evictions → j .run ≡ jobAt jobs k .run →
+      running j ≡ running (jobAt jobs k) → ((tenant : ℕ) → 0 < tenant → Fits (keptQuota s tenant) (usage (set jobs k j) (s .jobs) tenant)) → Good s jobs₀ (set jobs k j) h
   quiet b a o e r u w =
       record {
         size = length-set jobs k j ∙ g .size;
@@ -181,16 +186,22 @@ module _ (s : Setting) (jobs₀ jobs : List Job) (h : List Decision) (g : Good s
       }
 
   -- a change that a decision tells
-  pub speak : (d : Decision) → d .job ≡ k → k < 128 → j .ask ≡ jobAt jobs k .ask → JobOk j → j .evictions ≡ jobAt jobs k .evictions + bit (isEvicted (d .kind)) → j .run ≡ jobAt jobs k .run + bit (isStarted (d .kind)) → running j ≡ saysRuns (d .kind) (running (jobAt jobs k)) → ((tenant : ℕ) → 0 < tenant → Fits (keptQuota s tenant) (usage (set jobs k j) (s .jobs) tenant)) → Own s jobs₀ d → Good s jobs₀ (set jobs k j) (h ++ (d ∷ []))
+  pub speak : (d : Decision) → d .job ≡ k → k < 128 → j .ask ≡ jobAt jobs k .ask → JobOk j →
+      j .evictions ≡ jobAt jobs k .evictions + bit (isEvicted (d .kind)) → j .run ≡ jobAt jobs k .run + bit (isStarted (d .kind)) →
+      running j ≡ saysRuns (d .kind) (running (jobAt jobs k)) →
+      ((tenant : ℕ) → 0 < tenant → Fits (keptQuota s tenant) (usage (set jobs k j) (s .jobs) tenant)) → Own s jobs₀ d → Good s jobs₀ (set jobs k j) (h ++ (d ∷ []))
   speak d q b a o e r u w z =
       let asks : (i : ℕ) → jobAt (set jobs k j) i .ask ≡ jobAt jobs₀ i .ask = at-each (λ i x. x .ask ≡ jobAt jobs₀ i .ask) b (a ∙ g .asks k) (λ i n. g .asks i) in
       let each : (i : ℕ) → JobOk (jobAt (set jobs k j) i) = at-each (λ i x. JobOk x) b o (λ i n. g .each i) in
       let evicted : (i : ℕ) → evictionsOf i (h ++ (d ∷ [])) ≡ jobAt (set jobs k j) i .evictions =
-      at-each (λ i x. evictionsOf i (h ++ (d ∷ [])) ≡ x .evictions) b (omega (arith, told-here isEvicted k h d q, g .evicted k)) (λ i n. told-other isEvicted i h d (λ x. n (sym x ∙ q)) ∙ g .evicted i) in
+      at-each (λ i x. evictionsOf i (h ++ (d ∷ [])) ≡ x .evictions) b (omega (arith, told-here isEvicted k h d q, g .evicted k))
+      (λ i n. told-other isEvicted i h d (λ x. n (sym x ∙ q)) ∙ g .evicted i) in
       let started : (i : ℕ) → startsOf i (h ++ (d ∷ [])) ≡ jobAt (set jobs k j) i .run =
-      at-each (λ i x. startsOf i (h ++ (d ∷ [])) ≡ x .run) b (omega (arith, told-here isStarted k h d q, g .started k)) (λ i n. told-other isStarted i h d (λ x. n (sym x ∙ q)) ∙ g .started i) in
+      at-each (λ i x. startsOf i (h ++ (d ∷ [])) ≡ x .run) b (omega (arith, told-here isStarted k h d q, g .started k))
+      (λ i n. told-other isStarted i h d (λ x. n (sym x ∙ q)) ∙ g .started i) in
       let told : (i : ℕ) → runsAfter (h ++ (d ∷ [])) i ≡ running (jobAt (set jobs k j) i) =
-      at-each (λ i x. runsAfter (h ++ (d ∷ [])) i ≡ running x) b (runs-here k h d q ∙ ap (saysRuns (d .kind)) (g .told k) ∙ sym u) (λ i n. runs-other i h d (λ x. n (sym x ∙ q)) ∙ g .told i) in
+      at-each (λ i x. runsAfter (h ++ (d ∷ [])) i ≡ running x) b (runs-here k h d q ∙ ap (saysRuns (d .kind)) (g .told k) ∙ sym u)
+      (λ i n. runs-other i h d (λ x. n (sym x ∙ q)) ∙ g .told i) in
       let size : length (set jobs k j) ≡ 128 = length-set jobs k j ∙ g .size in
       let own : All (Own s jobs₀) (h ++ (d ∷ [])) = all-snoc (Own s jobs₀) h d (g .own) z in
       record {
@@ -206,7 +217,8 @@ module _ (s : Setting) (jobs₀ jobs : List Job) (h : List Decision) (g : Good s
       }
 
   -- the job costs no tenant more than before
-  pub no-more : ((tenant : ℕ) → chargeTo tenant j ≤ chargeTo tenant (jobAt jobs k)) → (tenant : ℕ) → 0 < tenant → Fits (keptQuota s tenant) (usage (set jobs k j) (s .jobs) tenant)
+  pub no-more : ((tenant : ℕ) → chargeTo tenant j ≤ chargeTo tenant (jobAt jobs k)) → (tenant : ℕ) → 0 < tenant →
+      Fits (keptQuota s tenant) (usage (set jobs k j) (s .jobs) tenant)
   no-more l tenant z f =
       let w : usage jobs (s .jobs) tenant < keptQuota s tenant = g .within tenant z f in
       omega (arith, w, usage-down jobs (s .jobs) tenant k j (l tenant))

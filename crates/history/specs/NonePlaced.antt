@@ -82,18 +82,21 @@ module _ (jobs : List Job) (k : ℕ) (n : NonePlaced jobs) where
 -- ---- pass and starts
 
 -- after a pass only those are placed that it placed
-pub only-pass : (s : Setting) (clock : Float) (gpus : List Gpu) (jobs : List Job) (line : Line) → length gpus ≡ 128 → length jobs ≡ 128 → Sized line → line .evicted ≡ 0 → NonePlaced jobs → OnlyPlaced (placedOf (walked s clock (newPass gpus jobs line))) (walked s clock (newPass gpus jobs line) .jobs)
+pub only-pass : (s : Setting) (clock : Float) (gpus : List Gpu) (jobs : List Job) (line : Line) → length gpus ≡ 128 → length jobs ≡ 128 →
+    Sized line → line .evicted ≡ 0 → NonePlaced jobs → OnlyPlaced (placedOf (walked s clock (newPass gpus jobs line))) (walked s clock (newPass gpus jobs line) .jobs)
 unfolding Life.evicted
 only-pass s clock gpus jobs line gs js sized begins n k h =
     let p : Pass = walked s clock (newPass gpus jobs line) in
     let c : Changes clock jobs p = pass-changes s clock gpus jobs line gs js sized begins in
     split
     (has k (victimsOf (p .line)))
-    (λ v. ap (λ (j : Job). placed (j .state)) (has-all (λ i. (jobAt jobs i .state ≡ Running) × (jobAt (p .jobs) i ≡ Life.evicted (jobAt jobs i) clock)) k (victimsOf (p .line)) (c .evicted) v .1))
+    (λ v. ap (λ (j : Job). placed (j .state))
+    (has-all (λ i. (jobAt jobs i .state ≡ Running) × (jobAt (p .jobs) i ≡ Life.evicted (jobAt jobs i) clock)) k (victimsOf (p .line)) (c .evicted) v .1))
     (λ v. rw (c .others k v h) (n k))
 
 module _ (options : Options) (clock : Float) where
-  all-start : (b : Begun) (ps : List Placing) → All (λ k. k < length (b .jobs)) (jobsOf ps) → OnlyPlaced (jobsOf ps) (b .jobs) → NonePlaced (begunAll options clock b ps .jobs)
+  all-start : (b : Begun) (ps : List Placing) → All (λ k. k < length (b .jobs)) (jobsOf ps) → OnlyPlaced (jobsOf ps) (b .jobs) →
+      NonePlaced (begunAll options clock b ps .jobs)
   unfolding begunAll
   all-start b [] l h = λ k. h k refl
   all-start b (p ∷ ps) l h =
@@ -107,6 +110,7 @@ module _ (options : Options) (clock : Float) where
       (eq-or-ne k (p .job)))
 
   -- and those start
-  pub none-starts : (b : Begun) (ps : List Placing) → length (b .jobs) ≡ 128 → All (InState Placed (b .jobs)) (jobsOf ps) → OnlyPlaced (jobsOf ps) (b .jobs) → NonePlaced (begunAll options clock b ps .jobs)
+  pub none-starts : (b : Begun) (ps : List Placing) → length (b .jobs) ≡ 128 → All (InState Placed (b .jobs)) (jobsOf ps) →
+      OnlyPlaced (jobsOf ps) (b .jobs) → NonePlaced (begunAll options clock b ps .jobs)
   none-starts b ps size l h =
       all-start b ps (all-weaken (InState Placed (b .jobs)) (λ k. k < length (b .jobs)) (jobsOf ps) (λ k q. rw size (q .0)) l) h

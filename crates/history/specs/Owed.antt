@@ -1,21 +1,19 @@
 -- What a job has queued beyond its arrival, read off its record; nine events a job at most.
-use mathlib.Core.Path.{_≡_, refl, sym, ap, _∙_}
+use mathlib.Core.Path.{_≡_, refl, ap, _∙_}
 use mathlib.Core.Logic.{⊎-elim}
-use mathlib.Core.Bool.{Bool, true, false}
-use mathlib.Core.List.{List, [], _∷_, _++_, map}
+use mathlib.Core.List.{List}
 use Prim.Native.Nat.{ℕ, _+_, _*_, _≤_, _<_, _%_, _^_}
 use native.Mathlib.Omega.{arith}
-use lib.ListN.{length, getD, take, set, length-take}
-use lib.Seq.{getD-set-same, getD-set-other}
+use lib.ListN.{length, take, set, length-take}
+use lib.Seq.{getD-set-other}
 use lib.Ieee.{Float}
 use Rattle.laws.specs.Choice.{pick}
-use Rattle.laws.specs.Tests.{split, never-both, le-or-lt}
-use Rattle.laws.specs.Lists.{All, Apart, Distinct, all-weaken, all-both, all-of, all-take, set-at}
-use Rattle.laws.specs.Sums.{sumOver, bit, sum-set, sum-kept, sum-append, sum-most, sum-first}
+use Rattle.laws.specs.Tests.{split, le-or-lt}
+use Rattle.laws.specs.Lists.{All, all-of, all-take}
+use Rattle.laws.specs.Sums.{sumOver, bit, sum-set, sum-most, sum-first}
 use Rattle.model.specs.Job.{noJob, newJob}
 use Rattle.model.specs.declared.job.Job.{Job}
-use Rattle.model.specs.declared.job.JobState.{JobState}
-use Rattle.model.specs.declared.job.JobState.the-variants.{Pending, Waiting, Placed, Running, Finished, Failed}
+use Rattle.model.specs.declared.job.JobState.the-variants.{Pending, Waiting, Placed, Running}
 use Rattle.life.specs.Life as Life
 use Rattle.life.specs.Life.{timed}
 use Rattle.history.specs.Good.{jobAt, JobOk, begun, came, begun-most, came-most}
@@ -81,7 +79,8 @@ Rest n jobs = (k : ℕ) → n ≤ k → jobAt jobs k ≡ noJob
 pub all-few : (n : ℕ) (jobs : List Job) → Rest n jobs → ((k : ℕ) → JobOk (jobAt jobs k)) → allEvents jobs ≤ 8 * n
 all-few n jobs r o =
     let e : allEvents jobs ≡ sumOver eventsOf (take n jobs) = sum-first eventsOf n jobs noJob (λ k h. ap eventsOf (r k h) ∙ owed-none) in
-    let a : All (λ j. eventsOf j ≤ 8) (take n jobs) = all-take (λ j. eventsOf j ≤ 8) n jobs (all-of (λ j. eventsOf j ≤ 8) jobs noJob (λ i b. events-few (jobAt jobs i) (o i))) in
+    let a : All (λ j. eventsOf j ≤ 8) (take n jobs) =
+    all-take (λ j. eventsOf j ≤ 8) n jobs (all-of (λ j. eventsOf j ≤ 8) jobs noJob (λ i b. events-few (jobAt jobs i) (o i))) in
     omega (arith, e, sum-most eventsOf 8 (take n jobs) a, length-take n jobs)
 
 -- a change of one job in the table

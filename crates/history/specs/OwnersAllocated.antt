@@ -27,7 +27,8 @@ use Rattle.history.specs.Owners.{Share, nothing, holds, wanted, Formed, 
 use Rattle.history.specs.OwnersFreed.{share-same}
 use Rattle.history.specs.OwnersGiven.{Free, given-own, given-others, given-behind, given-formed, slices-own, slices-others, slices-behind, slices-formed}
 
-module _ (s : Setting) (gpus : List Gpu) (jobs : List Job) (j : Job) (owner : ℕ) (table : length gpus ≡ 128) (formed : All Formed gpus) (may : placeable s gpus jobs j ≡ true) where
+module _ (s : Setting) (gpus : List Gpu) (jobs : List Job) (j : Job) (owner : ℕ) (table : length gpus ≡ 128) (formed : All Formed gpus)
+    (may : placeable s gpus jobs j ≡ true) where
   abbrev after : List Gpu
   after = allocated s gpus jobs j owner .gpus
 
@@ -86,7 +87,8 @@ module _ (s : Setting) (gpus : List Gpu) (jobs : List Job) (j : Job) (owner : �
       (λ z. rw (whole-is z, z)
       (given-own owner gpus chosen o chosen-once chosen-free ∙ share-same _ _ _ _ (omega (arith, g, chosen-count z)) p))
       (λ z. rw (slices-are z, z)
-      (slices-own gpus (s .gpus) (j .ask .profile) (mostOf s (j .ask .profile)) (j .ask .slices) owner table formed (sliced-length z) o (cuts (j .ask .profile)) (placeable-slices s gpus jobs j owner z may) ∙ share-same _ _ _ _ g (omega (arith, p))))
+      (slices-own gpus (s .gpus) (j .ask .profile) (mostOf s (j .ask .profile)) (j .ask .slices) owner table formed (sliced-length z) o
+      (cuts (j .ask .profile)) (placeable-slices s gpus jobs j owner z may) ∙ share-same _ _ _ _ g (omega (arith, p))))
 
   -- any other holds what it held
   pub got-others : (other : ℕ) → 0 < other → (other ≡ owner → ⊥) → holds other after ≡ holds other gpus
@@ -102,7 +104,9 @@ module _ (s : Setting) (gpus : List Gpu) (jobs : List Job) (j : Job) (owner : �
   got-behind k h =
       split
       (eqb (j .ask .profile) 0)
-      (λ z. rw (whole-is z) (given-behind owner (s .gpus) k gpus chosen (all-weaken (λ i. (i < s .gpus) × (i < 128) × (mayTake gpus (s .sites) (j .ask) i ≡ true)) (λ i. i < s .gpus) chosen (λ i q. q .0) (choose-each gpus (s .gpus) (s .sites) (j .ask) (s .options .best))) h))
+      (λ z. rw (whole-is z) (given-behind owner (s .gpus) k gpus chosen
+      (all-weaken (λ i. (i < s .gpus) × (i < 128) × (mayTake gpus (s .sites) (j .ask) i ≡ true)) (λ i. i < s .gpus) chosen (λ i q. q .0)
+      (choose-each gpus (s .gpus) (s .sites) (j .ask) (s .options .best))) h))
       (λ z. rw (slices-are z)
       (slices-behind gpus (s .gpus) (j .ask .profile) (mostOf s (j .ask .profile)) (j .ask .slices) owner table formed (sliced-length z) k h))
 

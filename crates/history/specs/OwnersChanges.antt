@@ -46,7 +46,8 @@ due-free j e = rw e
 
 module _ (n : ℕ) (gpus : List Gpu) (jobs : List Job) (o : Owners n gpus jobs) (k : ℕ) where
   -- a change of one job and of what it holds
-  change : (after : List Gpu) (j : Job) → k < 128 → length after ≡ 128 → ((i : ℕ) → n ≤ i → getD after i noGpu ≡ noGpu) → All Formed after → holds (k + 1) after ≡ due j → ((i : ℕ) → (i ≡ k → ⊥) → holds (i + 1) after ≡ holds (i + 1) gpus) → Owners n after (set jobs k j)
+  change : (after : List Gpu) (j : Job) → k < 128 → length after ≡ 128 → ((i : ℕ) → n ≤ i → getD after i noGpu ≡ noGpu) → All Formed after →
+      holds (k + 1) after ≡ due j → ((i : ℕ) → (i ≡ k → ⊥) → holds (i + 1) after ≡ holds (i + 1) gpus) → Owners n after (set jobs k j)
   change after j b l r f own others =
       record {
         table = l;
@@ -79,7 +80,8 @@ module _ (n : ℕ) (gpus : List Gpu) (jobs : List Job) (o : Owners n gpus jobs) 
       (λ i d. freed-others (k + 1) gpus (i + 1) (omega arith) (λ q. d (omega arith))))
 
   -- it held nothing, and gets what it asks for
-  pub owners-given : (s : Setting) (j : Job) → Cuts s → s .gpus ≡ n → k < 128 → due (jobAt jobs k) ≡ nothing → placeable s gpus jobs (jobAt jobs k) ≡ true → due j ≡ wanted (jobAt jobs k .ask) → Owners n (allocated s gpus jobs (jobAt jobs k) (plusOne k) .gpus) (set jobs k j)
+  pub owners-given : (s : Setting) (j : Job) → Cuts s → s .gpus ≡ n → k < 128 → due (jobAt jobs k) ≡ nothing →
+      placeable s gpus jobs (jobAt jobs k) ≡ true → due j ≡ wanted (jobAt jobs k .ask) → Owners n (allocated s gpus jobs (jobAt jobs k) (plusOne k) .gpus) (set jobs k j)
   owners-given s j cuts loaded b none may e =
       rw (number b)
       (change
@@ -115,7 +117,8 @@ module _ (n : ℕ) (gpus : List Gpu) (jobs : List Job) (o : Owners n gpus jobs) 
   owners-evicted clock b = owners-freed (Life.evicted (jobAt jobs k) clock) b (due-free (Life.evicted (jobAt jobs k) clock) refl)
 
   -- it is placed, with what it gets
-  pub owners-placed : (s : Setting) → Cuts s → s .gpus ≡ n → k < 128 → jobAt jobs k .state ≡ Waiting → placeable s gpus jobs (jobAt jobs k) ≡ true → Owners n (allocated s gpus jobs (jobAt jobs k) (plusOne k) .gpus) (set jobs k (Life.placed (jobAt jobs k)))
+  pub owners-placed : (s : Setting) → Cuts s → s .gpus ≡ n → k < 128 → jobAt jobs k .state ≡ Waiting → placeable s gpus jobs (jobAt jobs k) ≡ true →
+      Owners n (allocated s gpus jobs (jobAt jobs k) (plusOne k) .gpus) (set jobs k (Life.placed (jobAt jobs k)))
   unfolding Life.placed
   owners-placed s cuts loaded b e may =
       owners-given s (Life.placed (jobAt jobs k)) cuts loaded b (due-free (jobAt jobs k) (ap holdsIn e)) may (due-held (Life.placed (jobAt jobs k)) refl)

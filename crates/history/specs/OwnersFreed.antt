@@ -44,7 +44,9 @@ without-some owner x h = split (eqb x owner) (λ e. let z : 0 < 0 = rw e at h in
 slices-kept : (owner other : ℕ) (g : Gpu) → 0 < other → (other ≡ owner → ⊥) → ownedSlices other (freed owner g) ≡ ownedSlices other g
 unfolding ownedSlices freed
 slices-kept owner other g o n =
-    sum-map (isOf other) (withoutOwner owner) (g .owners) ∙ sum-same (λ x. isOf other (withoutOwner owner x)) (isOf other) (g .owners) (all-every (λ x. isOf other (withoutOwner owner x) ≡ isOf other x) (g .owners) (λ x. other-kept owner other x o n))
+    sum-map (isOf other) (withoutOwner owner) (g .owners)
+    ∙ sum-same (λ x. isOf other (withoutOwner owner x)) (isOf other) (g .owners)
+    (all-every (λ x. isOf other (withoutOwner owner x) ≡ isOf other x) (g .owners) (λ x. other-kept owner other x o n))
 
 pub freed-formed : (owner : ℕ) (g : Gpu) → Formed g → Formed (freed owner g)
 unfolding freed
@@ -69,16 +71,22 @@ module _ (owner : ℕ) (gpus : List Gpu) where
   unfolding holds freed
   freed-nothing o =
       share-same _ _ 0 0
-      (sum-map (λ g. isOf owner (g .owner)) (freed owner) gpus ∙ sum-none (λ g. isOf owner (freed owner g .owner)) gpus (all-every (λ g. isOf owner (freed owner g .owner) ≡ 0) gpus (λ g. own-gone owner (g .owner) o)))
-      (sum-map (ownedSlices owner) (freed owner) gpus ∙ sum-none (λ g. ownedSlices owner (freed owner g)) gpus (all-every (λ g. ownedSlices owner (freed owner g) ≡ 0) gpus (λ g. freed-none owner g o)))
+      (sum-map (λ g. isOf owner (g .owner)) (freed owner) gpus
+      ∙ sum-none (λ g. isOf owner (freed owner g .owner)) gpus (all-every (λ g. isOf owner (freed owner g .owner) ≡ 0) gpus (λ g. own-gone owner (g .owner) o)))
+      (sum-map (ownedSlices owner) (freed owner) gpus
+      ∙ sum-none (λ g. ownedSlices owner (freed owner g)) gpus (all-every (λ g. ownedSlices owner (freed owner g) ≡ 0) gpus (λ g. freed-none owner g o)))
 
   -- any other holds what it held
   pub freed-others : (other : ℕ) → 0 < other → (other ≡ owner → ⊥) → holds other (map (freed owner) gpus) ≡ holds other gpus
   unfolding holds freed
   freed-others other o n =
       share-same _ _ _ _
-      (sum-map (λ g. isOf other (g .owner)) (freed owner) gpus ∙ sum-same (λ g. isOf other (freed owner g .owner)) (λ g. isOf other (g .owner)) gpus (all-every (λ g. isOf other (freed owner g .owner) ≡ isOf other (g .owner)) gpus (λ g. other-kept owner other (g .owner) o n)))
-      (sum-map (ownedSlices other) (freed owner) gpus ∙ sum-same (λ g. ownedSlices other (freed owner g)) (ownedSlices other) gpus (all-every (λ g. ownedSlices other (freed owner g) ≡ ownedSlices other g) gpus (λ g. slices-kept owner other g o n)))
+      (sum-map (λ g. isOf other (g .owner)) (freed owner) gpus
+      ∙ sum-same (λ g. isOf other (freed owner g .owner)) (λ g. isOf other (g .owner)) gpus
+      (all-every (λ g. isOf other (freed owner g .owner) ≡ isOf other (g .owner)) gpus (λ g. other-kept owner other (g .owner) o n)))
+      (sum-map (ownedSlices other) (freed owner) gpus
+      ∙ sum-same (λ g. ownedSlices other (freed owner g)) (ownedSlices other) gpus
+      (all-every (λ g. ownedSlices other (freed owner g) ≡ ownedSlices other g) gpus (λ g. slices-kept owner other g o n)))
 
   -- where no GPU stands none stands after
   pub freed-behind : (i : ℕ) → 0 < owner → getD gpus i noGpu ≡ noGpu → getD (map (freed owner) gpus) i noGpu ≡ noGpu

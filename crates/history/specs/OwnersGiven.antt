@@ -56,13 +56,15 @@ Free gpus i = (i < length gpus) × (getD gpus i noGpu .owner ≡ 0)
 
 module _ (owner : ℕ) where
   -- each counts once for its new owner
-  given-sum : (other : ℕ) (gpus : List Gpu) (ids : List ℕ) → 0 < other → Distinct ids → All (Free gpus) ids → sumOver (λ g. isOf other (g .owner)) (given owner gpus ids) ≡ sumOver (λ g. isOf other (g .owner)) gpus + length ids * isOf other owner
+  given-sum : (other : ℕ) (gpus : List Gpu) (ids : List ℕ) → 0 < other → Distinct ids → All (Free gpus) ids →
+      sumOver (λ g. isOf other (g .owner)) (given owner gpus ids) ≡ sumOver (λ g. isOf other (g .owner)) gpus + length ids * isOf other owner
   unfolding given
   given-sum other gpus [] o d h = omega arith
   given-sum other gpus (i ∷ ids) o d h =
       let new : Gpu = withOwner owner (getD gpus i noGpu) in
       let z : isOf other (getD gpus i noGpu .owner) ≡ 0 = rw (h .0 .1, ne-eqb 0 other (λ e. omega arith)) in
-      let a : sumOver (λ g. isOf other (g .owner)) (set gpus i new) + isOf other (getD gpus i noGpu .owner) ≡ sumOver (λ g. isOf other (g .owner)) gpus + isOf other owner = sum-set (λ g. isOf other (g .owner)) gpus i new noGpu (h .0 .0) in
+      let a : sumOver (λ g. isOf other (g .owner)) (set gpus i new) + isOf other (getD gpus i noGpu .owner) ≡ sumOver (λ g. isOf other (g .owner))
+      gpus + isOf other owner = sum-set (λ g. isOf other (g .owner)) gpus i new noGpu (h .0 .0) in
       let m : suc (length ids) * isOf other owner ≡ length ids * isOf other owner + isOf other owner = suc-mul (length ids) (isOf other owner) in
       let rest : All (Free (set gpus i new)) ids =
       all-weaken
@@ -82,19 +84,23 @@ module _ (owner : ℕ) where
       given-slices other (set gpus i new) ids ∙ sum-kept (ownedSlices other) gpus i new noGpu refl
 
   -- the owner holds as many more
-  pub given-own : (gpus : List Gpu) (ids : List ℕ) → 0 < owner → Distinct ids → All (Free gpus) ids → holds owner (given owner gpus ids) ≡ record { gpus = holds owner gpus .gpus + length ids; slices = holds owner gpus .slices }
+  pub given-own : (gpus : List Gpu) (ids : List ℕ) → 0 < owner → Distinct ids → All (Free gpus) ids →
+      holds owner (given owner gpus ids) ≡ record { gpus = holds owner gpus .gpus + length ids; slices = holds owner gpus .slices }
   unfolding holds
   given-own gpus ids o d h =
       let e : isOf owner owner ≡ 1 = rw (eq-eqb owner owner refl) in
-      let s : sumOver (λ g. isOf owner (g .owner)) (given owner gpus ids) ≡ sumOver (λ g. isOf owner (g .owner)) gpus + length ids * 1 = rw e at (given-sum owner gpus ids o d h) in
+      let s : sumOver (λ g. isOf owner (g .owner)) (given owner gpus ids) ≡ sumOver (λ g. isOf owner (g .owner)) gpus + length ids * 1 =
+      rw e at (given-sum owner gpus ids o d h) in
       share-same _ _ _ _ (omega arith) (given-slices owner gpus ids)
 
   -- any other what it held
-  pub given-others : (other : ℕ) (gpus : List Gpu) (ids : List ℕ) → 0 < other → (other ≡ owner → ⊥) → Distinct ids → All (Free gpus) ids → holds other (given owner gpus ids) ≡ holds other gpus
+  pub given-others : (other : ℕ) (gpus : List Gpu) (ids : List ℕ) → 0 < other → (other ≡ owner → ⊥) → Distinct ids → All (Free gpus) ids →
+      holds other (given owner gpus ids) ≡ holds other gpus
   unfolding holds
   given-others other gpus ids o n d h =
       let e : isOf other owner ≡ 0 = rw (ne-eqb owner other (λ z. n (sym z))) in
-      let s : sumOver (λ g. isOf other (g .owner)) (given owner gpus ids) ≡ sumOver (λ g. isOf other (g .owner)) gpus + length ids * 0 = rw e at (given-sum other gpus ids o d h) in
+      let s : sumOver (λ g. isOf other (g .owner)) (given owner gpus ids) ≡ sumOver (λ g. isOf other (g .owner)) gpus + length ids * 0 =
+      rw e at (given-sum other gpus ids o d h) in
       share-same _ _ _ _ (omega arith) (given-slices other gpus ids)
 
   -- where nothing is given all stays
@@ -111,7 +117,8 @@ module _ (owner : ℕ) where
       given-formed
       (set gpus i new)
       ids
-      (all-weaken (λ j. getD gpus j noGpu .slices ≡ 0) (λ j. getD (set gpus i new) j noGpu .slices ≡ 0) ids (λ j e. set-kept gpus i new noGpu (λ g. g .slices) refl j ∙ e) (h .1))
+      (all-weaken (λ j. getD gpus j noGpu .slices ≡ 0) (λ j. getD (set gpus i new) j noGpu .slices ≡ 0) ids
+      (λ j e. set-kept gpus i new noGpu (λ g. g .slices) refl j ∙ e) (h .1))
       (all-set Formed gpus i new f (record { sized = was .sized; whole = λ z. h .0; inside = was .inside }))
 
 -- ---- slices
@@ -152,7 +159,8 @@ unfolding inOrder
 order-behind profile owner except left zero i k gpus h = refl
 order-behind profile owner except left (suc m) i k [] h = refl
 order-behind profile owner except left (suc m) i zero (g ∷ gpus) h = absurd (omega arith)
-order-behind profile owner except left (suc m) i (suc k) (g ∷ gpus) h = order-behind profile owner except (left - gives g profile left i except) m (i + 1) k gpus (omega arith)
+order-behind profile owner except left (suc m) i (suc k) (g ∷ gpus) h =
+    order-behind profile owner except (left - gives g profile left i except) m (i + 1) k gpus (omega arith)
 
 module _ (gpus : List Gpu) (n profile most want owner : ℕ) where
   ordered-behind : (except k : ℕ) → n ≤ k → getD (givenInOrder gpus n profile want owner except) k noGpu ≡ getD gpus k noGpu
@@ -163,7 +171,8 @@ module _ (gpus : List Gpu) (n profile most want owner : ℕ) where
   unfolding cutFor
   cut-for-behind k b h =
       let at : ℕ = firstIdle gpus n in
-      getD-set-other (givenInOrder gpus n profile want owner at) at k (newSlices (getD gpus at noGpu) profile want (freeElsewhere gpus n profile at) owner) noGpu (λ e. omega arith) ∙ ordered-behind at k h
+      getD-set-other (givenInOrder gpus n profile want owner at) at k
+      (newSlices (getD gpus at noGpu) profile want (freeElsewhere gpus n profile at) owner) noGpu (λ e. omega arith) ∙ ordered-behind at k h
 
   allocated-behind : (k : ℕ) → length gpus ≡ 128 → All Sized gpus → n ≤ k → getD (slicesAllocated gpus n profile most want owner .gpus) k noGpu ≡ getD gpus k noGpu
   unfolding slicesAllocated
@@ -209,7 +218,8 @@ module _ (gpus : List Gpu) (n profile most want owner : ℕ) where
       (ordered-sized 128 h)
       (pick-either (λ (a : Slices). All Sized (a .gpus)) (cutHelps gpus n most want) _ _ (cut-for-sized h) h)
 
-module _ (gpus : List Gpu) (n profile most want owner : ℕ) (table : length gpus ≡ 128) (formed : All Formed gpus) (same : length (slicesAllocated gpus n profile most want owner .gpus) ≡ length gpus) where
+module _ (gpus : List Gpu) (n profile most want owner : ℕ) (table : length gpus ≡ 128) (formed : All Formed gpus)
+    (same : length (slicesAllocated gpus n profile most want owner .gpus) ≡ length gpus) where
   abbrev after : List Gpu
   after = slicesAllocated gpus n profile most want owner .gpus
 
@@ -234,7 +244,8 @@ module _ (gpus : List Gpu) (n profile most want owner : ℕ) (table : length gpu
       (λ i l. ap bit (allocated-other gpus n profile most want owner table before-sized other k i o d)))
 
   -- the owner holds as many more as are wanted
-  pub slices-own : 0 < owner → most ≤ 7 → slicesAllocated gpus n profile most want owner .placed ≡ true → holds owner after ≡ record { gpus = holds owner gpus .gpus; slices = holds owner gpus .slices + want }
+  pub slices-own : 0 < owner → most ≤ 7 → slicesAllocated gpus n profile most want owner .placed ≡ true →
+      holds owner after ≡ record { gpus = holds owner gpus .gpus; slices = holds owner gpus .slices + want }
   unfolding holds
   slices-own o m p =
       share-same _ _ _ _ (whole-kept owner) (allocated-gain gpus n profile most want owner table before-sized o m p)

@@ -52,7 +52,8 @@ untouched-nothing owner gpus o h =
     (sum-none (ownedSlices owner) gpus (all-weaken Untouched (λ g. ownedSlices owner g ≡ 0) gpus (λ g u. untouched-slices owner g o u) h))
 
 -- so every job holds what it has to
-pub owners-loaded : (n : ℕ) (gpus : List Gpu) (jobs : List Job) → length gpus ≡ 128 → length jobs ≡ 128 → ((i : ℕ) → n ≤ i → getD gpus i noGpu ≡ noGpu) → ((i : ℕ) → Untouched (getD gpus i noGpu)) → ((k : ℕ) → jobAt jobs k .state ≡ Pending) → Owners n gpus jobs
+pub owners-loaded : (n : ℕ) (gpus : List Gpu) (jobs : List Job) → length gpus ≡ 128 → length jobs ≡ 128 →
+    ((i : ℕ) → n ≤ i → getD gpus i noGpu ≡ noGpu) → ((i : ℕ) → Untouched (getD gpus i noGpu)) → ((k : ℕ) → jobAt jobs k .state ≡ Pending) → Owners n gpus jobs
 owners-loaded n gpus jobs table size behind u pending =
     let all : All Untouched gpus = all-of Untouched gpus noGpu (λ i b. u i) in
     record {

@@ -54,7 +54,8 @@ module _ (gpus : List Gpu) (k i : ℕ) where
       ⊎-elim
       (λ past. let z : 0 ≡ getD (getD gpus i noGpu .owners) n 0 = past-read (getD gpus i noGpu .owners) n 0 past in absurd (omega arith))
       (λ inside.
-      let some : isOf (k + 1) (getD (getD gpus i noGpu .owners) n 0) ≤ sumOver (isOf (k + 1)) (getD gpus i noGpu .owners) = sum-at (isOf (k + 1)) (getD gpus i noGpu .owners) n 0 inside in
+      let some : isOf (k + 1) (getD (getD gpus i noGpu .owners) n 0) ≤ sumOver (isOf (k + 1)) (getD gpus i noGpu .owners) =
+      sum-at (isOf (k + 1)) (getD gpus i noGpu .owners) n 0 inside in
       ⊎-elim
       (λ past. let z : getD (getD gpus i noGpu .owners) n 0 ≡ 0 = rw (← past-read gpus i noGpu past) (no-slice n) in absurd (omega arith))
       (λ within. omega (arith, one, some, sum-at (ownedSlices (k + 1)) gpus i noGpu within))

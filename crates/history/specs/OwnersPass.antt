@@ -39,20 +39,23 @@ use Rattle.history.specs.OwnersChanges.{holdsIn, due-held, owners-same, 
 -- ---- a pass
 
 module _ (s : Setting) (clock : Float) (cuts : Cuts s) where
-  place-owners : (p : Pass) (id : ℕ) → Standing p → Looked p id → allocation s p id (jobAt (p .jobs) id) .placed ≡ true → Owners (s .gpus) (p .gpus) (p .jobs) → Owners (s .gpus) (placing s p id .gpus) (placing s p id .jobs)
+  place-owners : (p : Pass) (id : ℕ) → Standing p → Looked p id → allocation s p id (jobAt (p .jobs) id) .placed ≡ true →
+      Owners (s .gpus) (p .gpus) (p .jobs) → Owners (s .gpus) (placing s p id .gpus) (placing s p id .jobs)
   unfolding placedAs
   place-owners p id so l t o =
       let may : placeable s (p .gpus) (p .jobs) (jobAt (p .jobs) id) ≡ true = sym (placed-placeable s (p .gpus) (p .jobs) (jobAt (p .jobs) id) (plusOne id)) ∙ t in
       owners-placed (s .gpus) (p .gpus) (p .jobs) o id s cuts refl (looked-in p so id l) (l .waiting) may
 
   -- jobs leave one after the other
-  leave-owners : (gpus : List Gpu) (jobs : List Job) (vs : List ℕ) → All (λ v. v < 128) vs → Owners (s .gpus) gpus jobs → Owners (s .gpus) (freedAll gpus vs) (evictedAll clock jobs vs)
+  leave-owners : (gpus : List Gpu) (jobs : List Job) (vs : List ℕ) → All (λ v. v < 128) vs → Owners (s .gpus) gpus jobs →
+      Owners (s .gpus) (freedAll gpus vs) (evictedAll clock jobs vs)
   unfolding freedAll evictedAll
   leave-owners gpus jobs [] b o = o
   leave-owners gpus jobs (v ∷ vs) b o =
       leave-owners (map (freed (plusOne v)) gpus) (set jobs v (Life.evicted (jobAt jobs v) clock)) vs (b .1) (owners-evicted (s .gpus) gpus jobs o v clock (b .0))
 
-  clear-owners : (p : Pass) (id : ℕ) (vs : List ℕ) → All (MayLeave s clock p id) vs → Owners (s .gpus) (p .gpus) (p .jobs) → Owners (s .gpus) (cleared clock p id vs .gpus) (cleared clock p id vs .jobs)
+  clear-owners : (p : Pass) (id : ℕ) (vs : List ℕ) → All (MayLeave s clock p id) vs → Owners (s .gpus) (p .gpus) (p .jobs) →
+      Owners (s .gpus) (cleared clock p id vs .gpus) (cleared clock p id vs .jobs)
   unfolding cleared
   clear-owners p id vs m o =
       leave-owners (p .gpus) (p .jobs) vs (all-weaken (MayLeave s clock p id) (λ v. v < 128) vs (λ v q. q .0) m) o
@@ -66,7 +69,8 @@ module _ (s : Setting) (clock : Float) (cuts : Cuts s) where
       }
 
   -- so does a pass
-  pub owners-pass : (gpus : List Gpu) (jobs : List Job) (line : Line) → Sized line → line .evicted ≡ 0 → Owners (s .gpus) gpus jobs → Owners (s .gpus) (walked s clock (newPass gpus jobs line) .gpus) (walked s clock (newPass gpus jobs line) .jobs)
+  pub owners-pass : (gpus : List Gpu) (jobs : List Job) (line : Line) → Sized line → line .evicted ≡ 0 → Owners (s .gpus) gpus jobs →
+      Owners (s .gpus) (walked s clock (newPass gpus jobs line) .gpus) (walked s clock (newPass gpus jobs line) .jobs)
   unfolding newPass sorted
   owners-pass gpus jobs line sized begins o =
       pass-keeps s clock gpus jobs line (o .table) (o .size) sized begins (λ p. Owners (s .gpus) (p .gpus) (p .jobs)) owners-kept o
@@ -81,10 +85,15 @@ module _ (options : Options) (clock : Float) (n : ℕ) (gpus : List Gpu) (jobs :
   begun-holds : (b : Begun) (p : Placing) → InState Placed jobs (p .job) → Holds b → Holds (Begin.begun options clock b p)
   unfolding Begin.begun Life.started
   begun-holds b p i h =
-      let new : Job = Life.started (jobOf b p) (startOf options clock b p) in
-      (owners-same n gpus (b .jobs) (h .0) (p .job) new (i .0) (due-held new refl ∙ sym (due-held (jobAt (b .jobs) (p .job)) (h .1 (p .job) (ap holdsIn (i .1))))), λ k e. set-related (b .jobs) (p .job) new noJob (λ x y. holdsIn (x .state) ≡ true → holdsIn (y .state) ≡ true) (λ x t. t) (λ t. refl) k (h .1 k e))
+      let new : Job = Life.started (jobOf b p) (startOf options clock b p) in (
+        owners-same n gpus (b .jobs) (h .0) (p .job) new (i .0)
+            (due-held new refl ∙ sym (due-held (jobAt (b .jobs) (p .job)) (h .1 (p .job) (ap holdsIn (i .1))))),
+        λ k e. set-related (b .jobs) (p .job) new noJob (λ x y. holdsIn (x .state) ≡ true → holdsIn (y .state) ≡ true) (λ x t. t) (λ t. refl) k (h .1 k e),
+      )
 
 -- the placed jobs start, and keep what they have
-pub owners-starts : (options : Options) (clock : Float) (n : ℕ) (gpus : List Gpu) (b : Begun) (ps : List Placing) → All (InState Placed (b .jobs)) (jobsOf ps) → Owners n gpus (b .jobs) → Owners n gpus (begunAll options clock b ps .jobs)
+pub owners-starts : (options : Options) (clock : Float) (n : ℕ) (gpus : List Gpu) (b : Begun) (ps : List Placing) →
+    All (InState Placed (b .jobs)) (jobsOf ps) → Owners n gpus (b .jobs) → Owners n gpus (begunAll options clock b ps .jobs)
 owners-starts options clock n gpus b ps l o =
-    all-among options clock (Holds options clock n gpus (b .jobs)) (λ p. InState Placed (b .jobs) (p .job)) (begun-holds options clock n gpus (b .jobs)) b ps (all-unmap (InState Placed (b .jobs)) (λ p. p .job) ps l) (o, λ k e. e) .0
+    all-among options clock (Holds options clock n gpus (b .jobs)) (λ p. InState Placed (b .jobs) (p .job))
+    (begun-holds options clock n gpus (b .jobs)) b ps (all-unmap (InState Placed (b .jobs)) (λ p. p .job) ps l) (o, λ k e. e) .0

@@ -22,7 +22,8 @@ use Rattle.history.specs.Owners.{Owners, Cuts}
 use Rattle.history.specs.OwnersPass.{owners-pass, owners-starts}
 use Rattle.history.specs.NonePlaced.{OnlyPlaced, NonePlaced, only-pass, none-starts}
 
-module _ (s : Setting) (clock : Float) (gpus : List Gpu) (jobs : List Job) (line : Line) (cuts : Cuts s) (sized : Sized line) (begins : line .evicted ≡ 0) (o : Owners (s .gpus) gpus jobs) (none : NonePlaced jobs) where
+module _ (s : Setting) (clock : Float) (gpus : List Gpu) (jobs : List Job) (line : Line) (cuts : Cuts s) (sized : Sized line)
+    (begins : line .evicted ≡ 0) (o : Owners (s .gpus) gpus jobs) (none : NonePlaced jobs) where
   abbrev pub pass : Pass
   pass = walked s clock (newPass gpus jobs line)
 
@@ -30,8 +31,13 @@ module _ (s : Setting) (clock : Float) (gpus : List Gpu) (jobs : List Job) (line
   standing = pass-standing s clock gpus jobs line (o .table) (o .size) sized begins
 
   -- the starts begin with the jobs as the pass left them
-  pub owners-settles : (options : Options) (b : Begun) → b .jobs ≡ pass .jobs → Owners (s .gpus) (pass .gpus) (begunAll options clock b (take (pass .count) (pass .placed)) .jobs) × NonePlaced (begunAll options clock b (take (pass .count) (pass .placed)) .jobs)
+  pub owners-settles : (options : Options) (b : Begun) → b .jobs ≡ pass .jobs →
+      Owners (s .gpus) (pass .gpus) (begunAll options clock b (take (pass .count) (pass .placed)) .jobs) × NonePlaced
+      (begunAll options clock b (take (pass .count) (pass .placed)) .jobs)
   owners-settles options b e =
       let are : All (InState Placed (b .jobs)) (placedOf pass) = rw e (standing .placed-are) in
-      let only : OnlyPlaced (placedOf pass) (b .jobs) = rw e (only-pass s clock gpus jobs line (o .table) (o .size) sized begins none) in
-      (owners-starts options clock (s .gpus) (pass .gpus) b (take (pass .count) (pass .placed)) are (rw e (owners-pass s clock cuts gpus jobs line sized begins o)), none-starts options clock b (take (pass .count) (pass .placed)) (rw e (standing .jobs)) are only)
+      let only : OnlyPlaced (placedOf pass) (b .jobs) = rw e (only-pass s clock gpus jobs line (o .table) (o .size) sized begins none) in (
+        owners-starts options clock (s .gpus) (pass .gpus) b (take (pass .count) (pass .placed)) are
+            (rw e (owners-pass s clock cuts gpus jobs line sized begins o)),
+        none-starts options clock b (take (pass .count) (pass .placed)) (rw e (standing .jobs)) are only,
+      )

@@ -43,7 +43,9 @@ says-other jobs d f t = absurd (never-both t f)
 
 -- ---- a pass tells evictions alone
 
-pub says-pass : (s : Setting) (clock : Float) (gpus : List Gpu) (jobs₀ jobs : List Job) (line : Line) → length gpus ≡ 128 → length jobs ≡ 128 → Sized line → line .evicted ≡ 0 → line .log .count ≤ 1 → All (SaysAmount jobs₀) (decisions (line .log)) → All (SaysAmount jobs₀) (decisions (walked s clock (newPass gpus jobs line) .line .log))
+pub says-pass : (s : Setting) (clock : Float) (gpus : List Gpu) (jobs₀ jobs : List Job) (line : Line) → length gpus ≡ 128 → length jobs ≡ 128 →
+    Sized line → line .evicted ≡ 0 → line .log .count ≤ 1 → All (SaysAmount jobs₀) (decisions (line .log)) →
+    All (SaysAmount jobs₀) (decisions (walked s clock (newPass gpus jobs line) .line .log))
 says-pass s clock gpus jobs₀ jobs line gs js sized begins own h =
     let t : Told clock (decisions (line .log)) (line .log .count) (walked s clock (newPass gpus jobs line)) = pass-told s clock gpus jobs line gs js sized begins own in
     rw (t .all)
@@ -56,20 +58,25 @@ says-pass s clock gpus jobs₀ jobs line gs js sized begins own h =
 
 -- ---- the starts
 
-started-say : (options : Options) (clock : Float) (jobs₀ : List Job) (b : Begun) (ps : List Placing) → ((k : ℕ) → jobAt (b .jobs) k .ask ≡ jobAt jobs₀ k .ask) → All (SaysAmount jobs₀) (startsTold options clock b ps)
+started-say : (options : Options) (clock : Float) (jobs₀ : List Job) (b : Begun) (ps : List Placing) →
+    ((k : ℕ) → jobAt (b .jobs) k .ask ≡ jobAt jobs₀ k .ask) → All (SaysAmount jobs₀) (startsTold options clock b ps)
 unfolding startsTold
 started-say options clock jobs₀ b [] a = tt
 started-say options clock jobs₀ b (p ∷ ps) a =
     (λ t. ap amount (a (p .job)), started-say options clock jobs₀ (Begin.begun options clock b p) ps (λ k. begun-ask options clock b p k ∙ a k))
 
-pub says-starts : (options : Options) (clock : Float) (jobs₀ : List Job) (b : Begun) (ps : List Placing) → length (b .log .table) ≡ most → b .log .count + length ps ≤ most → ((k : ℕ) → jobAt (b .jobs) k .ask ≡ jobAt jobs₀ k .ask) → All (SaysAmount jobs₀) (decisions (b .log)) → All (SaysAmount jobs₀) (decisions (begunAll options clock b ps .log))
+pub says-starts : (options : Options) (clock : Float) (jobs₀ : List Job) (b : Begun) (ps : List Placing) → length (b .log .table) ≡ most →
+    b .log .count + length ps ≤ most → ((k : ℕ) → jobAt (b .jobs) k .ask ≡ jobAt jobs₀ k .ask) → All (SaysAmount jobs₀) (decisions (b .log)) →
+    All (SaysAmount jobs₀) (decisions (begunAll options clock b ps .log))
 says-starts options clock jobs₀ b ps l r a h =
     rw (all-decisions options clock b ps l r)
     (all-append (SaysAmount jobs₀) (decisions (b .log)) (startsTold options clock b ps) h (started-say options clock jobs₀ b ps a))
 
 -- ---- so a running job holds what any of its started decisions says
 
-pub holds-told : (n : ℕ) (gpus : List Gpu) (jobs₀ jobs : List Job) (h : List Decision) → Owners n gpus jobs → ((k : ℕ) → jobAt jobs k .ask ≡ jobAt jobs₀ k .ask) → All (SaysAmount jobs₀) h → (before after : List Decision) (d : Decision) → h ≡ before ++ (d ∷ after) → d .kind ≡ Started → jobAt jobs (d .job) .state ≡ Running → holds (d .job + 1) gpus .gpus + holds (d .job + 1) gpus .slices ≡ d .other
+pub holds-told : (n : ℕ) (gpus : List Gpu) (jobs₀ jobs : List Job) (h : List Decision) → Owners n gpus jobs →
+    ((k : ℕ) → jobAt jobs k .ask ≡ jobAt jobs₀ k .ask) → All (SaysAmount jobs₀) h → (before after : List Decision) (d : Decision) →
+    h ≡ before ++ (d ∷ after) → d .kind ≡ Started → jobAt jobs (d .job) .state ≡ Running → holds (d .job + 1) gpus .gpus + holds (d .job + 1) gpus .slices ≡ d .other
 holds-told n gpus jobs₀ jobs h o asks says before after d e kind run =
     let told : SaysAmount jobs₀ d = all-middle (SaysAmount jobs₀) before d after (rw e at says) in
     job-amount n gpus jobs o (d .job) (ap holdsIn run) ∙ ap amount (asks (d .job)) ∙ sym (told (ap isStarted kind))

@@ -54,7 +54,8 @@ prefixTold s clock p id = map (evictionTold clock id) (prefix s clock p id)
 pub data Idle (s : Setting) (clock : Float) (p : Pass) (id : ℕ) : Type 0 where
   not-waiting : waits (jobAt p id) ≡ false → Idle s clock p id
   a-victim : has id (victimsOf (p .line)) ≡ true → Idle s clock p id
-  no-prefix : fitsNow s p id ≡ false → (jobAt p id .ask .profile ≡ 0 → (m : ℕ) → 0 < m → m ≤ length (candidatesAt s p id) → helps s clock p id m ≡ false) → Idle s clock p id
+  no-prefix : fitsNow s p id ≡ false → (jobAt p id .ask .profile ≡ 0 → (m : ℕ) → 0 < m → m ≤ length (candidatesAt s p id) →
+      helps s clock p id m ≡ false) → Idle s clock p id
 
 -- It waits, is no victim, is placeable as things stand, and is placed; no decision is added.
 pub record Places (s : Setting) (p : Pass) (id : ℕ) (q : Pass) : Type 0 where
@@ -106,7 +107,9 @@ Silent s clock p i = decisions (after s clock p (i + 1) .line .log) ≡ decision
 -- Which evictions of the first n visits name the job: none, and each visit of it is silent; or exactly those of the one visit at which it preempted, in their order; each other visit of it is silent, and it is placed since.
 pub data Evicts (s : Setting) (clock : Float) (p : Pass) (n id : ℕ) (ds : List Decision) : Type 0 where
   nobody : ds ≡ [] → ((i : ℕ) → i < n → visitor p i ≡ id → Silent s clock p i) → Evicts s clock p n id ds
-  once : (i : ℕ) → i < n → visitor p i ≡ id → Preempts s clock (after s clock p i) id (after s clock p (i + 1)) → ds ≡ prefixTold s clock (after s clock p i) id → ((k : ℕ) → k < n → visitor p k ≡ id → (k ≡ i → ⊥) → Silent s clock p k) → jobAt (after s clock p n) id .state ≡ Placed → Evicts s clock p n id ds
+  once : (i : ℕ) → i < n → visitor p i ≡ id → Preempts s clock (after s clock p i) id (after s clock p (i + 1)) →
+      ds ≡ prefixTold s clock (after s clock p i) id → ((k : ℕ) → k < n → visitor p k ≡ id → (k ≡ i → ⊥) → Silent s clock p k) →
+      jobAt (after s clock p n) id .state ≡ Placed → Evicts s clock p n id ds
 
 -- What the first n visits told, behind the decisions before them, and which of it names each job.
 pub record Prefixes (s : Setting) (clock : Float) (p : Pass) (n : ℕ) : Type 0 where

@@ -17,8 +17,7 @@ use Rattle.laws.specs.Sort.{only}
 use Rattle.eligible.specs.More.{only-append}
 use Rattle.model.specs.declared.gpu.Gpu.{Gpu}
 use Rattle.model.specs.declared.job.Job.{Job}
-use Rattle.model.specs.declared.job.JobState.{JobState}
-use Rattle.model.specs.declared.job.JobState.the-variants.{Pending, Waiting, Placed, Running, Finished, Failed}
+use Rattle.model.specs.declared.job.JobState.the-variants.{Placed, Running}
 use Rattle.model.specs.declared.setting.Options.{Options}
 use Rattle.model.specs.declared.setting.Setting.{Setting}
 use Rattle.model.specs.declared.totals.Totals.{Totals}
@@ -104,7 +103,8 @@ module _ (s : Setting) (clock : Float) (p : Pass) (id : ℕ) (so : Standing p) w
         let so' : Standing gone = clear-standing clock p so id (prefix s clock p id) prefix-runs prefix-once in
         let c : (jobAt gone id ≡ jobAt p id) × Looked gone id = clear-looked clock p so id (prefix s clock p id) prefix-runs prefix-once l in
         let v : visited s clock p id ≡ placedAs gone id (jobAt p id) (allocation s gone id (jobAt p id)) =
-        visit-preempts s clock p id l f z (rw (count-is s clock p id) h) ∙ ap (λ (vs : List ℕ). placedAs (cleared clock p id vs) id (jobAt p id) (allocation s (cleared clock p id vs) id (jobAt p id))) (leaving-is s clock p id) in
+        visit-preempts s clock p id l f z (rw (count-is s clock p id) h)
+        ∙ ap (λ (vs : List ℕ). placedAs (cleared clock p id vs) id (jobAt p id) (allocation s (cleared clock p id vs) id (jobAt p id))) (leaving-is s clock p id) in
         let e : visited s clock p id ≡ placing s gone id = v ∙ ap (λ (j : Job). placedAs gone id j (allocation s gone id j)) (sym (c .0)) in
         record {
           looked = l;
@@ -173,20 +173,26 @@ only-starts options clock id b (p ∷ ps) = only-starts options clock id (begun 
 placed-kept : (s : Setting) (clock : Float) (id : ℕ) → Kept s clock (λ p. jobAt p id .state ≡ Placed)
 placed-kept s clock id =
     record {
-      place = λ p k so l t h. rw (place-other p so k l (jobAt p k) (allocation s p k (jobAt p k)) id (λ e. never-both (ap waitsIn (l .waiting)) (ap waitsIn (rw e at h)))) h;
+      place = λ p k so l t h. rw (place-other p so k l (jobAt p k) (allocation s p k (jobAt p k)) id
+          (λ e. never-both (ap waitsIn (l .waiting)) (ap waitsIn (rw e at h)))) h;
       clear = λ p k vs so l may once h. let run : All (InState Running (p .jobs)) vs = may-run s clock p k vs may in
-          rw (clear-other clock p so k vs run once id (fails (has id vs) (λ e. never-both (ap Usage.runs (has-all (InState Running (p .jobs)) id vs run e .1)) (ap Usage.runs h)))) h;
+          rw (clear-other clock p so k vs run once id
+          (fails (has id vs) (λ e. never-both (ap Usage.runs (has-all (InState Running (p .jobs)) id vs run e .1)) (ap Usage.runs h)))) h;
     }
 
 -- who preempts evicts somebody
 told-some : (s : Setting) (clock : Float) (p : Pass) (id : ℕ) (q : Pass) → Preempts s clock p id q → decisions (q .line .log) ≡ decisions (p .line .log) → ⊥
 told-some s clock p id q x e =
-    let n : length (prefixTold s clock p id) ≡ howMany s clock p id = length-map (prefix s clock p id) (evictionTold clock id) ∙ length-take-le (howMany s clock p id) (candidatesAt s p id) (x .least .within) in
-    let l : length (decisions (p .line .log)) ≡ length (decisions (p .line .log)) + length (prefixTold s clock p id) = ap length (sym e ∙ x .told) ∙ length-append (decisions (p .line .log)) (prefixTold s clock p id) in
+    let n : length (prefixTold s clock p id) ≡ howMany s clock p id = length-map (prefix s clock p id) (evictionTold clock id)
+    ∙ length-take-le (howMany s clock p id) (candidatesAt s p id) (x .least .within) in
+    let l : length (decisions (p .line .log)) ≡ length (decisions (p .line .log)) + length (prefixTold s clock p id) = ap length (sym e ∙ x .told)
+    ∙ length-append (decisions (p .line .log)) (prefixTold s clock p id) in
     omega (arith, n, l, x .some)
 
 -- For a job that preempts in one of the first n visits, the evictions that name it are the shortest prefix of its candidates then.
-pub preempts-told : (s : Setting) (clock : Float) (p : Pass) (n i : ℕ) (ds : List Decision) → i < n → Preempts s clock (after s clock p i) (visitor p i) (after s clock p (i + 1)) → Evicts s clock p n (visitor p i) ds → ds ≡ prefixTold s clock (after s clock p i) (visitor p i)
+pub preempts-told : (s : Setting) (clock : Float) (p : Pass) (n i : ℕ) (ds : List Decision) → i < n →
+    Preempts s clock (after s clock p i) (visitor p i) (after s clock p (i + 1)) → Evicts s clock p n (visitor p i) ds →
+    ds ≡ prefixTold s clock (after s clock p i) (visitor p i)
 preempts-told s clock p n i ds h x (nobody e f) = absurd (told-some s clock (after s clock p i) (visitor p i) (after s clock p (i + 1)) x (f i h refl))
 preempts-told s clock p n i ds h x (once k a v y e f t) =
     ⊎-elim
@@ -216,7 +222,8 @@ module _ (s : Setting) (clock : Float) (p : Pass) (so : Standing p) (begins : p 
       through-keeps
       (visitAt s clock (sorted p .line .queue))
       Then
-      (λ q i b. visit-keeps s clock (Told clock (decisions (p .line .log)) (p .line .log .count)) (told-kept s clock (decisions (p .line .log)) (p .line .log .count) own) q (visitor p i) b)
+      (λ q i b. visit-keeps s clock (Told clock (decisions (p .line .log)) (p .line .log .count))
+      (told-kept s clock (decisions (p .line .log)) (p .line .log .count) own) q (visitor p i) b)
       (sorted p)
       n
       0
@@ -259,7 +266,8 @@ module _ (s : Setting) (clock : Float) (p : Pass) (so : Standing p) (begins : p 
       record { told = g .told; all = e ∙ g .all; each = λ id. quiet n id (only (evictsFor id) (g .told)) (λ v. e) (g .each id) }
 
   -- the visit of a job that preempts: it did not before, since it would be placed
-  first-time : (n : ℕ) (ds : List Decision) → Preempts s clock (after s clock p n) (visitor p n) (after s clock p (n + 1)) → Evicts s clock p n (visitor p n) ds → Evicts s clock p (n + 1) (visitor p n) (ds ++ prefixTold s clock (after s clock p n) (visitor p n))
+  first-time : (n : ℕ) (ds : List Decision) → Preempts s clock (after s clock p n) (visitor p n) (after s clock p (n + 1)) →
+      Evicts s clock p n (visitor p n) ds → Evicts s clock p (n + 1) (visitor p n) (ds ++ prefixTold s clock (after s clock p n) (visitor p n))
   first-time n ds x (nobody e f) = once n (omega arith) refl x (rw e) (λ k h v d. f k (omega (arith, h, d)) v) (x .placed)
   first-time n ds x (once i h v y e f t) = absurd (never-both (ap waitsIn (x .looked .waiting)) (ap waitsIn t))
 
@@ -269,19 +277,23 @@ module _ (s : Setting) (clock : Float) (p : Pass) (so : Standing p) (begins : p 
       record {
         told = g .told ++ prefixTold s clock (after s clock p n) (visitor p n);
         all = x .told ∙ rw (g .all) (append-assoc (decisions (p .line .log)) (g .told) (prefixTold s clock (after s clock p n) (visitor p n)));
-        each = λ id. rw (only-append (evictsFor id) (g .told) (prefixTold s clock (after s clock p n) (visitor p n))) (⊎-elim (λ e. own-visit id e) (λ e. other-visit id e) (eq-or-ne (visitor p n) id));
+        each = λ id. rw (only-append (evictsFor id) (g .told) (prefixTold s clock (after s clock p n) (visitor p n)))
+            (⊎-elim (λ e. own-visit id e) (λ e. other-visit id e) (eq-or-ne (visitor p n) id));
       }
     where
       vs : List ℕ
       vs = prefix s clock (after s clock p n) (visitor p n)
 
-      own-visit : (id : ℕ) → visitor p n ≡ id → Evicts s clock p (n + 1) id (only (evictsFor id) (g .told) ++ only (evictsFor id) (map (evictionTold clock (visitor p n)) vs))
+      own-visit : (id : ℕ) → visitor p n ≡ id →
+          Evicts s clock p (n + 1) id (only (evictsFor id) (g .told) ++ only (evictsFor id) (map (evictionTold clock (visitor p n)) vs))
       own-visit id e =
           rw (← e, only-own clock (visitor p n) vs) (first-time n (only (evictsFor (visitor p n)) (g .told)) x (g .each (visitor p n)))
 
-      other-visit : (id : ℕ) → (visitor p n ≡ id → ⊥) → Evicts s clock p (n + 1) id (only (evictsFor id) (g .told) ++ only (evictsFor id) (map (evictionTold clock (visitor p n)) vs))
+      other-visit : (id : ℕ) → (visitor p n ≡ id → ⊥) →
+          Evicts s clock p (n + 1) id (only (evictsFor id) (g .told) ++ only (evictsFor id) (map (evictionTold clock (visitor p n)) vs))
       other-visit id e =
-          rw (only-other clock (visitor p n) id vs e, append-nil (only (evictsFor id) (g .told))) (quiet n id (only (evictsFor id) (g .told)) (λ v. absurd (e v)) (g .each id))
+          rw (only-other clock (visitor p n) id vs e, append-nil (only (evictsFor id) (g .told)))
+          (quiet n id (only (evictsFor id) (g .told)) (λ v. absurd (e v)) (g .each id))
 
   by-outcome : (n : ℕ) → Prefixes s clock p n → Outcome s clock (after s clock p n) (visitor p n) (after s clock p (n + 1)) → Prefixes s clock p (n + 1)
   by-outcome n g (nothing i e) = quiet-visit n g (ap (λ (q : Pass). decisions (q .line .log)) e)
@@ -297,7 +309,9 @@ module _ (s : Setting) (clock : Float) (p : Pass) (so : Standing p) (begins : p 
 
 -- ---- the pass of a step: told is the log as it begins, with at most the event's own decision
 
-module _ (s : Setting) (clock : Float) (gpus : List Gpu) (jobs : List Job) (queue : List ℕ) (waiting : ℕ) (totals : Totals) (told : Log) (ok : Bool) (gpus-size : length gpus ≡ 128) (jobs-size : length jobs ≡ 128) (queue-size : length queue ≡ 128) (told-size : length (told .table) ≡ 129) (own : told .count ≤ 1) where
+module _ (s : Setting) (clock : Float) (gpus : List Gpu) (jobs : List Job) (queue : List ℕ) (waiting : ℕ) (totals : Totals) (told : Log) (ok : Bool)
+    (gpus-size : length gpus ≡ 128) (jobs-size : length jobs ≡ 128) (queue-size : length queue ≡ 128) (told-size : length (told .table) ≡ 129)
+    (own : told .count ≤ 1) where
   abbrev line : Line
   line = newLine queue waiting totals told ok
 
@@ -336,15 +350,20 @@ module _ (s : Setting) (clock : Float) (gpus : List Gpu) (jobs : List Job) (queu
   unfolding newLine
   end-room =
       let sized : Sized line = new-sized queue waiting totals told ok queue-size told-size in
-      omega
-      (arith, pass-room s clock gpus jobs line gpus-size jobs-size sized refl own, pass-none-lost s clock gpus jobs line gpus-size jobs-size sized refl .1, length-map starts (λ x. x .job))
+      omega (
+        arith,
+        pass-room s clock gpus jobs line gpus-size jobs-size sized refl own,
+        pass-none-lost s clock gpus jobs line gpus-size jobs-size sized refl .1,
+        length-map starts (λ x. x .job),
+      )
 
   end-sized : length (end .line .log .table) ≡ 129
   unfolding newLine
   end-sized = pass-standing s clock gpus jobs line gpus-size jobs-size (new-sized queue waiting totals told ok queue-size told-size) refl .line .log
 
   -- The same of all decisions of the step, the starts told behind the pass: the evictions among them that name a job are none, or those of the shortest prefix.
-  pub step-prefixes : All (λ d. isEvicted (d .kind) ≡ false) (decisions told) → (options : Options) (b : Begun) → b .log ≡ end .line .log → (id : ℕ) → Evicts s clock begin (visits begin) id (only (evictsFor id) (decisions (begunAll options clock b (take (end .count) (end .placed)) .log)))
+  pub step-prefixes : All (λ d. isEvicted (d .kind) ≡ false) (decisions told) → (options : Options) (b : Begun) → b .log ≡ end .line .log →
+      (id : ℕ) → Evicts s clock begin (visits begin) id (only (evictsFor id) (decisions (begunAll options clock b (take (end .count) (end .placed)) .log)))
   step-prefixes none options b e id = rw all-of (pass-prefixes .each id)
     where
       behind : List Decision
@@ -356,10 +375,20 @@ module _ (s : Setting) (clock : Float) (gpus : List Gpu) (jobs : List Job) (queu
 
       all-of : only (evictsFor id) (decisions (begunAll options clock b starts .log)) ≡ only (evictsFor id) (pass-prefixes .told)
       all-of =
-          rw (step-told, only-append (evictsFor id) (decisions told ++ pass-prefixes .told) behind, only-append (evictsFor id) (decisions told) (pass-prefixes .told), only-none id (decisions told) none, only-starts options clock id b starts, append-nil (only (evictsFor id) (pass-prefixes .told)))
+          rw (
+            step-told,
+            only-append (evictsFor id) (decisions told ++ pass-prefixes .told) behind,
+            only-append (evictsFor id) (decisions told) (pass-prefixes .told),
+            only-none id (decisions told) none,
+            only-starts options clock id b starts,
+            append-nil (only (evictsFor id) (pass-prefixes .told)),
+          )
 
   -- So for each job that preempts in the step, the evictions that name it are the shortest prefix of its candidates at its visit.
-  pub step-preempts : All (λ d. isEvicted (d .kind) ≡ false) (decisions told) → (options : Options) (b : Begun) → b .log ≡ end .line .log → (i : ℕ) → i < visits begin → Preempts s clock (after s clock begin i) (visitor begin i) (after s clock begin (i + 1)) → only (evictsFor (visitor begin i)) (decisions (begunAll options clock b (take (end .count) (end .placed)) .log)) ≡ prefixTold s clock (after s clock begin i) (visitor begin i)
+  pub step-preempts : All (λ d. isEvicted (d .kind) ≡ false) (decisions told) → (options : Options) (b : Begun) → b .log ≡ end .line .log → (i : ℕ) →
+      i < visits begin → Preempts s clock (after s clock begin i) (visitor begin i) (after s clock begin (i + 1)) →
+      only (evictsFor (visitor begin i)) (decisions (begunAll options clock b (take (end .count) (end .placed)) .log)) ≡ prefixTold s clock
+      (after s clock begin i) (visitor begin i)
   step-preempts none options b e i h x =
       preempts-told
       s

@@ -45,7 +45,9 @@ set-waits jobs i j n k =
     set-related jobs i j noJob (λ a b. waits b ≡ true → waits a ≡ true) (λ x h. h) (λ h. absurd (never-both h n)) k
 
 -- who stood may still stand, and nobody else waits
-pub lined-changed : (test more : JobState → Bool) (jobs after : List Job) (q : List ℕ) → ((k : ℕ) → test (jobAt jobs k .state) ≡ true → more (jobAt after k .state) ≡ true) → ((k : ℕ) → waitsAt after k ≡ true → waitsAt jobs k ≡ true) → Lined test jobs q → Lined more after q
+pub lined-changed : (test more : JobState → Bool) (jobs after : List Job) (q : List ℕ) →
+    ((k : ℕ) → test (jobAt jobs k .state) ≡ true → more (jobAt after k .state) ≡ true) → ((k : ℕ) → waitsAt after k ≡ true → waitsAt jobs k ≡ true) →
+    Lined test jobs q → Lined more after q
 lined-changed test more jobs after q f g l =
     record {
       once = l .once;
@@ -64,17 +66,20 @@ lined-same test jobs q r d e l =
       all = λ k w. e k ∙ l .all k w;
     }
 
-pub lined-sorted : (test : JobState → Bool) (jobs : List Job) (queue : List ℕ) (n : ℕ) → n ≤ length queue → Lined test jobs (take n queue) → Lined test jobs (take n (sortedQueue jobs queue n))
+pub lined-sorted : (test : JobState → Bool) (jobs : List Job) (queue : List ℕ) (n : ℕ) → n ≤ length queue → Lined test jobs (take n queue) →
+    Lined test jobs (take n (sortedQueue jobs queue n))
 lined-sorted test jobs queue n h l =
     lined-same test jobs (take n queue) (take n (sortedQueue jobs queue n)) (queue-distinct jobs queue n h (l .once)) (queue-has jobs queue n h) l
 
 -- those that still wait are kept, and nobody began to wait
-pub lined-left : (test : JobState → Bool) (jobs after : List Job) (queue : List ℕ) (n : ℕ) → ((k : ℕ) → waitsAt after k ≡ true → waitsAt jobs k ≡ true) → Lined test jobs (take n queue) → Lined waitsIn after (stillWaiting after queue n)
+pub lined-left : (test : JobState → Bool) (jobs after : List Job) (queue : List ℕ) (n : ℕ) →
+    ((k : ℕ) → waitsAt after k ≡ true → waitsAt jobs k ≡ true) → Lined test jobs (take n queue) → Lined waitsIn after (stillWaiting after queue n)
 lined-left test jobs after queue n g l =
     let left : List ℕ = stillWaiting after queue n in
     record {
       once = still-distinct after queue n (l .once);
-      each = all-weaken (λ k. Stands test jobs k × (waitsAt after k ≡ true)) (Stands waitsIn after) left (λ k h. (h .0 .0, h .1)) (all-both (Stands test jobs) (λ k. waitsAt after k ≡ true) left (still-keeps after queue n (Stands test jobs) (l .each)) (still-waits after queue n));
+      each = all-weaken (λ k. Stands test jobs k × (waitsAt after k ≡ true)) (Stands waitsIn after) left (λ k h. (h .0 .0, h .1))
+          (all-both (Stands test jobs) (λ k. waitsAt after k ≡ true) left (still-keeps after queue n (Stands test jobs) (l .each)) (still-waits after queue n));
       all = λ k w. let a : has k (take n queue) ≡ true = l .all k (g k w) in still-has after queue n k ∙ rw (a, w);
     }
 
@@ -85,14 +90,16 @@ lined-few test jobs q l =
 
 -- ---- jobs join that did not stand in it
 
-module _ (test : JobState → Bool) (jobs : List Job) (q vs : List ℕ) (l : Lined test jobs q) (d : Distinct vs) (new : All (λ k. test (jobAt jobs k .state) ≡ false) vs) where
+module _ (test : JobState → Bool) (jobs : List Job) (q vs : List ℕ) (l : Lined test jobs q) (d : Distinct vs)
+    (new : All (λ k. test (jobAt jobs k .state) ≡ false) vs) where
   join-apart : All (λ x. Apart x vs) q
   join-apart =
       all-weaken
       (Stands test jobs)
       (λ x. Apart x vs)
       q
-      (λ x h. all-weaken (λ k. test (jobAt jobs k .state) ≡ false) (λ y. x ≡ y → ⊥) vs (λ y f e. never-both (h .1) (ap (λ (z : ℕ). test (jobAt jobs z .state)) e ∙ f)) new)
+      (λ x h. all-weaken (λ k. test (jobAt jobs k .state) ≡ false) (λ y. x ≡ y → ⊥) vs
+      (λ y f e. never-both (h .1) (ap (λ (z : ℕ). test (jobAt jobs z .state)) e ∙ f)) new)
       (l .each)
 
   join-once : Distinct (q ++ vs)
@@ -117,5 +124,6 @@ module _ (test : JobState → Bool) (jobs : List Job) (q vs : List ℕ) (l : Lin
       record {
         once = join-once;
         each = all-append (Stands test after) q vs kept now;
-        all = λ k w. has-append k q vs ∙ split (has k vs) (λ v. or-right (has k q) (has k vs) v) (λ v. or-left (has k q) (has k vs) (l .all k (ap (λ (j : Job). waits j) (sym (same k v)) ∙ w)));
+        all = λ k w. has-append k q vs ∙ split (has k vs) (λ v. or-right (has k q) (has k vs) v)
+            (λ v. or-left (has k q) (has k vs) (l .all k (ap (λ (j : Job). waits j) (sym (same k v)) ∙ w)));
       }

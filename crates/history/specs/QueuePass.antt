@@ -39,7 +39,8 @@ pub record PassLined (first : List ℕ) (p : Pass) : Type 0 where
 
 -- ---- running jobs leave
 
-module _ (s : Setting) (clock : Float) (first : List ℕ) (p : Pass) (id : ℕ) (vs : List ℕ) (so : Standing p) (may : All (MayLeave s clock p id) vs) (d : Distinct vs) (g : PassLined first p) where
+module _ (s : Setting) (clock : Float) (first : List ℕ) (p : Pass) (id : ℕ) (vs : List ℕ) (so : Standing p) (may : All (MayLeave s clock p id) vs)
+    (d : Distinct vs) (g : PassLined first p) where
   run : All (InState Running (p .jobs)) vs
   run = may-run s clock p id vs may
 
@@ -49,7 +50,12 @@ module _ (s : Setting) (clock : Float) (first : List ℕ) (p : Pass) (id : ℕ) 
   -- There is a place in the queue for each of them.
   pub leave-room : p .line .waiting + length vs ≤ 128
   leave-room =
-      omega (arith, g .count, join-room waitsOrPlaced (p .jobs) (queueOf (p .line)) vs (g .lined) d new (all-weaken (InState Running (p .jobs)) (λ k. k < 128) vs (λ k h. h .0) run))
+      omega (
+        arith,
+        g .count,
+        join-room waitsOrPlaced (p .jobs) (queueOf (p .line)) vs (g .lined) d new
+            (all-weaken (InState Running (p .jobs)) (λ k. k < 128) vs (λ k h. h .0) run),
+      )
 
   leave-queue : queueOf (cleared clock p id vs .line) ≡ queueOf (p .line) ++ vs
   unfolding cleared
@@ -82,12 +88,15 @@ module _ (s : Setting) (clock : Float) (first : List ℕ) (p : Pass) (id : ℕ) 
 -- ---- what a pass keeps
 
 module _ (s : Setting) (clock : Float) (first : List ℕ) where
-  place-lined : (p : Pass) (id : ℕ) → Standing p → Looked p id → allocation s p id (jobAt (p .jobs) id) .placed ≡ true → PassLined first p → PassLined first (placing s p id)
+  place-lined : (p : Pass) (id : ℕ) → Standing p → Looked p id → allocation s p id (jobAt (p .jobs) id) .placed ≡ true → PassLined first p →
+      PassLined first (placing s p id)
   unfolding placedAs Life.placed
   place-lined p id so l t g =
       let j : Job = Life.placed (jobAt (p .jobs) id) in
       record {
-        lined = lined-changed waitsOrPlaced waitsOrPlaced (p .jobs) (set (p .jobs) id j) (queueOf (p .line)) (λ k. set-related (p .jobs) id j noJob (λ a b. waitsOrPlaced (a .state) ≡ true → waitsOrPlaced (b .state) ≡ true) (λ x h. h) (λ h. refl) k) (set-waits (p .jobs) id j refl) (g .lined);
+        lined = lined-changed waitsOrPlaced waitsOrPlaced (p .jobs) (set (p .jobs) id j) (queueOf (p .line))
+            (λ k. set-related (p .jobs) id j noJob (λ a b. waitsOrPlaced (a .state) ≡ true → waitsOrPlaced (b .state) ≡ true) (λ x h. h) (λ h. refl)
+            k) (set-waits (p .jobs) id j refl) (g .lined);
         count = g .count;
         behind = g .behind;
       }

@@ -1,8 +1,8 @@
 -- The running totals stay small: each counts no more than the decisions that were told, and the longest queue is at most the table.
-use mathlib.Core.Path.{_≡_, refl, sym, ap, _∙_}
+use mathlib.Core.Path.{_≡_}
 use mathlib.Core.Bool.{Bool, true, false}
 use mathlib.Core.List.{List, [], _∷_}
-use Prim.Native.Nat.{ℕ, suc, _+_, _≤_, _<_, _%_, _^_}
+use Prim.Native.Nat.{ℕ, suc, _+_, _≤_}
 use native.Mathlib.Omega.{arith}
 use lib.Dec.{ltb}
 use lib.ListN.{length}
@@ -21,7 +21,7 @@ use Rattle.starts.specs.Begin as Begin
 use Rattle.starts.specs.Begin.{begunAll}
 use Rattle.starts.specs.declared.begin.Placing.{Placing}
 use Rattle.starts.specs.declared.begin.Begun.{Begun}
-use Rattle.apart.specs.Standing.{Standing, Looked, cleared, clear-room}
+use Rattle.apart.specs.Standing.{Standing, cleared, clear-room}
 use Rattle.apart.specs.Leaving.{MayLeave, may-run}
 use Rattle.apart.specs.LineLaws.{joins-evicted}
 use Rattle.apart.specs.Keeps.{Kept, placing}
@@ -53,13 +53,26 @@ joined-small n queue t q s =
 evicted-small : (n queue : ℕ) (t : Totals) → queue ≤ 128 → Small n t → Small (n + 1) (Noted.evicted t queue)
 unfolding Noted.evicted
 evicted-small n queue t q s =
-    record { evictions = more-fits (t .evictions) n true (s .evictions); cuts = omega (arith, s .cuts); penalised = omega (arith, s .penalised); longest = larger-fits (t .longest) queue 128 (s .longest) q }
+    record {
+      evictions = more-fits (t .evictions) n true (s .evictions);
+      cuts = omega (arith, s .cuts);
+      penalised =
+          omega (arith, s .penalised);
+      longest = larger-fits (t .longest) queue 128 (s .longest) q;
+    }
 
 -- a start
-started-small : (n : ℕ) (t : Totals) (cut penalised : Bool) (remaining multiplier : Float) → Small n t → Small (n + 1) (Noted.started t cut penalised remaining multiplier)
+started-small : (n : ℕ) (t : Totals) (cut penalised : Bool) (remaining multiplier : Float) → Small n t →
+    Small (n + 1) (Noted.started t cut penalised remaining multiplier)
 unfolding Noted.started
 started-small n t cut penalised remaining multiplier s =
-    record { evictions = omega (arith, s .evictions); cuts = more-fits (t .cuts) n cut (s .cuts); penalised = more-fits (t .penalised) n penalised (s .penalised); longest = s .longest }
+    record {
+      evictions = omega (arith, s .evictions);
+      cuts = more-fits (t .cuts) n cut (s .cuts);
+      penalised =
+          more-fits (t .penalised) n penalised (s .penalised);
+      longest = s .longest;
+    }
 
 -- the victims join, and the queue fits its table
 pub record Fits (n : ℕ) (line : Line) : Type 0 where
@@ -94,7 +107,8 @@ module _ (s : Setting) (clock : Float) (n : ℕ) where
   unfolding cleared
   clear-fits p id vs so m d f =
       let room : p .line .evicted + length vs + p .count ≤ 128 = clear-room clock p so id vs (may-run s clock p id vs m) d in
-      let x : joinedAll clock (evictedAll clock (p .jobs) vs) id (p .line) vs .evicted ≡ p .line .evicted + length vs = joins-evicted clock (evictedAll clock (p .jobs) vs) id (p .line) vs (omega (arith, room)) in
+      let x : joinedAll clock (evictedAll clock (p .jobs) vs) id (p .line) vs .evicted ≡ p .line .evicted + length vs =
+      joins-evicted clock (evictedAll clock (p .jobs) vs) id (p .line) vs (omega (arith, room)) in
       let e : n + joinedAll clock (evictedAll clock (p .jobs) vs) id (p .line) vs .evicted ≡ n + p .line .evicted + length vs = omega (arith, x) in
       rw e (joins-fit (n + p .line .evicted) clock (evictedAll clock (p .jobs) vs) id (p .line) vs f)
 
@@ -105,7 +119,8 @@ begun-small : (options : Options) (clock : Float) (n : ℕ) (b : Begun) (p : Pla
 unfolding Begin.begun
 begun-small options clock n b p f = started-small n (b .totals) (p .cut) (p .penalised) _ _ f
 
-pub starts-small : (options : Options) (clock : Float) (n : ℕ) (b : Begun) (ps : List Placing) → Small n (b .totals) → Small (n + length ps) (begunAll options clock b ps .totals)
+pub starts-small : (options : Options) (clock : Float) (n : ℕ) (b : Begun) (ps : List Placing) → Small n (b .totals) →
+    Small (n + length ps) (begunAll options clock b ps .totals)
 unfolding begunAll
 starts-small options clock n b [] f = let e : n + 0 ≡ n = omega arith in rw e f
 starts-small options clock n b (p ∷ ps) f =

@@ -1,8 +1,7 @@
 -- Floats and their bits.
 use mathlib.Core.Path.{_≡_, refl}
-use mathlib.Core.Bool.{Bool, true, false, not}
-use Prim.Native.Nat.{ℕ, _*_}
-use lib.Dec.{eqb}
+use mathlib.Core.Bool.{true, false, not}
+use Prim.Native.Nat.{_*_}
 use lib.Ieee.{Float, nan, inf, fin, up, down, eq, isNan}
 use borrow.Author.Tests.{eq-eqb}
 

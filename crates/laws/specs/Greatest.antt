@@ -82,7 +82,8 @@ module _ (ahead : ℕ → ℕ → Bool) (o : Order ahead) where
       (eq-or-gt i k l)
 
   -- it is ahead of each number before it: the first on a tie
-  pub best-first : (m i b : ℕ) → ((k : ℕ) → k < b → ahead b k ≡ true) → ((k : ℕ) → k < i → ahead k b ≡ false) → (k : ℕ) → k < best ahead m i b → ahead (best ahead m i b) k ≡ true
+  pub best-first : (m i b : ℕ) → ((k : ℕ) → k < b → ahead b k ≡ true) → ((k : ℕ) → k < i → ahead k b ≡ false) → (k : ℕ) → k < best ahead m i b →
+      ahead (best ahead m i b) k ≡ true
   unfolding best
   best-first zero i b f g k h = f k h
   best-first (suc m) i b f g k h =
@@ -140,39 +141,20 @@ module _ (f : ℕ → ℕ) where
   unfolding argmax
   argmax-end n i b h = best-end more n i b h
 
-  -- it is b or in the range
-  pub argmax-in : (m i b : ℕ) → (argmax m i b ≡ b) ⊎ ((i ≤ argmax m i b) × (argmax m i b < i + m))
-  unfolding argmax
-  argmax-in m i b = best-in more m i b
-
   -- it is below n where b and the range are
   pub argmax-below : (n m i b : ℕ) → b < n → i + m ≤ n → argmax m i b < n
   unfolding argmax
   argmax-below n m i b h k = best-below more n m i b h k
 
-  -- it is at least b
-  pub argmax-start : (m i b : ℕ) → f b ≤ f (argmax m i b)
-  unfolding argmax
-  argmax-start m i b = ltb-false (f (best more m i b)) (f b) (best-start more more-order m i b)
-
-  -- it is at least each of the range
-  pub argmax-most : (m i b k : ℕ) → i ≤ k → k < i + m → f k ≤ f (argmax m i b)
-  unfolding argmax
-  argmax-most m i b k l h = ltb-false (f (best more m i b)) (f k) (best-most more more-order m i b k l h)
-
-  -- each number before it is less: it is the first on a tie
-  pub argmax-first : (m i b : ℕ) → ((k : ℕ) → k < b → f k < f b) → ((k : ℕ) → k < i → f k ≤ f b) → (k : ℕ) → k < argmax m i b → f k < f (argmax m i b)
-  unfolding argmax
-  argmax-first m i b g h k l =
-      ltb-true (f k) (f (best more m i b)) (best-first more more-order m i b (λ j s. lt-ltb (f j) (f b) (g j s)) (λ j s. le-ltb (f b) (f j) (h j s)) k l)
-
   -- over the first n numbers, from 0 on, it is at least each
   pub argmax-whole : (n k : ℕ) → k < n → f k ≤ f (argmax n 0 0)
-  argmax-whole n k h = argmax-most n 0 0 k (omega arith) (omega arith)
+  unfolding argmax
+  argmax-whole n k h = ltb-false (f (best more n 0 0)) (f k) (best-most more more-order n 0 0 k (omega arith) (omega arith))
 
-  -- over the first n numbers, each before it is less
+  -- over the first n numbers, each before it is less: it is the first on a tie
   pub argmax-whole-first : (n k : ℕ) → k < argmax n 0 0 → f k < f (argmax n 0 0)
-  argmax-whole-first n k h = argmax-first n 0 0 (λ j s. absurd (omega arith)) (λ j s. absurd (omega arith)) k h
+  unfolding argmax
+  argmax-whole-first n k h = ltb-true (f k) (f (best more n 0 0)) (best-first more more-order n 0 0 (λ j s. absurd (omega arith)) (λ j s. absurd (omega arith)) k h)
 
 -- ---- by the least number
 
@@ -210,36 +192,17 @@ module _ (f : ℕ → ℕ) where
   unfolding argmin
   argmin-end n i b h = best-end less n i b h
 
-  -- it is b or in the range
-  pub argmin-in : (m i b : ℕ) → (argmin m i b ≡ b) ⊎ ((i ≤ argmin m i b) × (argmin m i b < i + m))
-  unfolding argmin
-  argmin-in m i b = best-in less m i b
-
   -- it is below n where b and the range are
   pub argmin-below : (n m i b : ℕ) → b < n → i + m ≤ n → argmin m i b < n
   unfolding argmin
   argmin-below n m i b h k = best-below less n m i b h k
 
-  -- it is at most b
-  pub argmin-start : (m i b : ℕ) → f (argmin m i b) ≤ f b
-  unfolding argmin
-  argmin-start m i b = ltb-false (f b) (f (best less m i b)) (best-start less less-order m i b)
-
-  -- it is at most each of the range
-  pub argmin-most : (m i b k : ℕ) → i ≤ k → k < i + m → f (argmin m i b) ≤ f k
-  unfolding argmin
-  argmin-most m i b k l h = ltb-false (f k) (f (best less m i b)) (best-most less less-order m i b k l h)
-
-  -- each number before it is greater: it is the first on a tie
-  pub argmin-first : (m i b : ℕ) → ((k : ℕ) → k < b → f b < f k) → ((k : ℕ) → k < i → f b ≤ f k) → (k : ℕ) → k < argmin m i b → f (argmin m i b) < f k
-  unfolding argmin
-  argmin-first m i b g h k l =
-      ltb-true (f (best less m i b)) (f k) (best-first less less-order m i b (λ j s. lt-ltb (f b) (f j) (g j s)) (λ j s. le-ltb (f j) (f b) (h j s)) k l)
-
   -- over the first n numbers, from 0 on, it is at most each
   pub argmin-whole : (n k : ℕ) → k < n → f (argmin n 0 0) ≤ f k
-  argmin-whole n k h = argmin-most n 0 0 k (omega arith) (omega arith)
+  unfolding argmin
+  argmin-whole n k h = ltb-false (f k) (f (best less n 0 0)) (best-most less less-order n 0 0 k (omega arith) (omega arith))
 
-  -- over the first n numbers, each before it is greater
+  -- over the first n numbers, each before it is greater: it is the first on a tie
   pub argmin-whole-first : (n k : ℕ) → k < argmin n 0 0 → f (argmin n 0 0) < f k
-  argmin-whole-first n k h = argmin-first n 0 0 (λ j s. absurd (omega arith)) (λ j s. absurd (omega arith)) k h
+  unfolding argmin
+  argmin-whole-first n k h = ltb-true (f (best less n 0 0)) (f k) (best-first less less-order n 0 0 (λ j s. absurd (omega arith)) (λ j s. absurd (omega arith)) k h)

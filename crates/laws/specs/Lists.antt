@@ -293,7 +293,8 @@ module _ {A : Type 0} (n : ℕ) (d : A) where
   unfolding pad
   pad-past l i z h k =
       let e : i ≡ length l + (i - length l) = omega arith in
-      ap (λ (j : ℕ). getD (l ++ replicate (n - length l) d) j z) e ∙ getD-append-add l (replicate (n - length l) d) (i - length l) z ∙ getD-replicate (n - length l) (i - length l) d z (omega arith)
+      ap (λ (j : ℕ). getD (l ++ replicate (n - length l) d) j z) e ∙ getD-append-add l (replicate (n - length l) d) (i - length l) z
+      ∙ getD-replicate (n - length l) (i - length l) d z (omega arith)
 
   -- read with the same default the fill does not show
   pub pad-getD : (l : List A) (i : ℕ) → length l ≤ n → getD (pad n d l) i d ≡ getD l i d

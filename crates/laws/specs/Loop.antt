@@ -48,7 +48,8 @@ module _ {S : Type 0} (f : S → ℕ → S) where
       rw e (through-holds P (f s i) m (i + 1) (λ s j a b. k s j (omega arith) (omega arith)) (k s i (omega arith) (omega arith) h))
 
 -- two loops side by side: what each place keeps between their states holds after all
-pub through-both : {S T : Type 0} (f : S → ℕ → S) (g : T → ℕ → T) (R : S → T → Type 0) → ((s : S) (t : T) (i : ℕ) → R s t → R (f s i) (g t i)) → (s : S) (t : T) (m i : ℕ) → R s t → R (through f s m i) (through g t m i)
+pub through-both : {S T : Type 0} (f : S → ℕ → S) (g : T → ℕ → T) (R : S → T → Type 0) → ((s : S) (t : T) (i : ℕ) → R s t → R (f s i) (g t i)) →
+    (s : S) (t : T) (m i : ℕ) → R s t → R (through f s m i) (through g t m i)
 unfolding through
 through-both f g R k s t zero i h = h
 through-both f g R k s t (suc m) i h = through-both f g R k (f s i) (g t i) m (i + 1) (k s t i h)

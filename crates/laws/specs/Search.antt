@@ -274,7 +274,8 @@ those-all p (suc m) i f =
     rw (f i (omega arith) (omega arith)) (ap suc (those-all p m (i + 1) (λ k a b. f k (omega arith) (omega arith))))
 
 -- one number more with the property is one more
-pub those-one-more : (p q : ℕ → Bool) (j m i : ℕ) → i ≤ j → j < i + m → p j ≡ false → q j ≡ true → ((k : ℕ) → (k ≡ j → ⊥) → p k ≡ q k) → length (those q m i) ≡ length (those p m i) + 1
+pub those-one-more : (p q : ℕ → Bool) (j m i : ℕ) → i ≤ j → j < i + m → p j ≡ false → q j ≡ true → ((k : ℕ) → (k ≡ j → ⊥) → p k ≡ q k) →
+    length (those q m i) ≡ length (those p m i) + 1
 unfolding those
 those-one-more p q j zero i a b n t f = absurd (omega arith)
 those-one-more p q j (suc m) i a b n t f =
@@ -290,7 +291,8 @@ those-one-more p q j (suc m) i a b n t f =
     (eq-or-gt i j a)
 
 -- a weaker property that one number more has chooses more
-pub those-fewer : (p q : ℕ → Bool) (j m i : ℕ) → i ≤ j → j < i + m → p j ≡ false → q j ≡ true → ((k : ℕ) → i ≤ k → k < i + m → p k ≡ true → q k ≡ true) → length (those p m i) < length (those q m i)
+pub those-fewer : (p q : ℕ → Bool) (j m i : ℕ) → i ≤ j → j < i + m → p j ≡ false → q j ≡ true →
+    ((k : ℕ) → i ≤ k → k < i + m → p k ≡ true → q k ≡ true) → length (those p m i) < length (those q m i)
 unfolding those
 those-fewer p q j zero i a b n t f = absurd (omega arith)
 those-fewer p q j (suc m) i a b n t f =
@@ -300,8 +302,11 @@ those-fewer p q j (suc m) i a b n t f =
     let t : q i ≡ true = rw s at t in
     rw (n, t) (omega (arith, those-more p q m (i + 1) (λ k c d. f k (omega arith) (omega arith)))))
     (λ s. let r : length (those p m (i + 1)) < length (those q m (i + 1)) = those-fewer p q j m (i + 1) s (omega arith) n t (λ k c d. f k (omega arith) (omega arith)) in
-    omega
-    (arith, keep-more (p i) (q i) i (i ∷ those p m (i + 1)) (those q m (i + 1)) (f i (omega arith) (omega arith)) (omega arith), keep-one-more (p i) i (those p m (i + 1))))
+    omega (
+      arith,
+      keep-more (p i) (q i) i (i ∷ those p m (i + 1)) (those q m (i + 1)) (f i (omega arith) (omega arith)) (omega arith),
+      keep-one-more (p i) i (those p m (i + 1)),
+    ))
     (eq-or-gt i j a)
 
 -- the chosen and the others together are all

@@ -128,7 +128,8 @@ sum-map g f [] = refl
 sum-map g f (x ∷ l) = omega (arith, sum-map g f l)
 
 -- tables with weights that agree at each index
-pub sum-alike : {A B : Type 0} (g : A → ℕ) (h : B → ℕ) (l : List A) (r : List B) (d : A) (e : B) → length l ≡ length r → ((k : ℕ) → k < length l → g (getD l k d) ≡ h (getD r k e)) → sumOver g l ≡ sumOver h r
+pub sum-alike : {A B : Type 0} (g : A → ℕ) (h : B → ℕ) (l : List A) (r : List B) (d : A) (e : B) → length l ≡ length r →
+    ((k : ℕ) → k < length l → g (getD l k d) ≡ h (getD r k e)) → sumOver g l ≡ sumOver h r
 unfolding sumOver
 sum-alike g h [] [] d e n f = refl
 sum-alike g h [] (y ∷ r) d e n f = absurd (omega arith)

@@ -1,5 +1,5 @@
 -- The small changes of one job, and the numbers that they store.
-use mathlib.Core.Bool.{Bool, true, false}
+use mathlib.Core.Bool.{Bool, false}
 use Prim.Native.Nat.{ℕ, _+_, _%_, _^_}
 use lib.Dec.{eqb}
 use lib.Ieee.{Float, binary64, add, sub, mul, lt}
@@ -20,15 +20,48 @@ timed ask = pick (ask .gang) (lt zero·0 (ask .timeout)) false
 
 -- Arrival: the job waits, its waiting-since the clock; a timed gang job's timeout generation is raised.
 unfoldable pub waits : Job → Float → Job
-waits j clock = record { ask = j .ask; state = Waiting; since = clock; start = j .start; remaining = j .remaining; waited = j .waited; evictions = j .evictions; run = j .run; timeouts = raised (j .timeouts) (timed (j .ask)) }
+waits j clock = record {
+  ask = j .ask;
+  state = Waiting;
+  since = clock;
+  start = j .start;
+  remaining = j .remaining;
+  waited = j .waited;
+  evictions =
+      j .evictions;
+  run = j .run;
+  timeouts = raised (j .timeouts) (timed (j .ask));
+}
 
 -- Timeout: waited grows by the clock less waiting-since, and the job has failed.
 unfoldable pub fails : Job → Float → Job
-fails j clock = record { ask = j .ask; state = Failed; since = j .since; start = j .start; remaining = j .remaining; waited = add binary64 (j .waited) (sub binary64 clock (j .since)); evictions = j .evictions; run = j .run; timeouts = j .timeouts }
+fails j clock = record {
+  ask = j .ask;
+  state = Failed;
+  since = j .since;
+  start = j .start;
+  remaining = j .remaining;
+  waited =
+      add binary64 (j .waited) (sub binary64 clock (j .since));
+  evictions = j .evictions;
+  run = j .run;
+  timeouts = j .timeouts;
+}
 
 -- Completion: the job has finished.
 unfoldable pub ends : Job → Job
-ends j = record { ask = j .ask; state = Finished; since = j .since; start = j .start; remaining = j .remaining; waited = j .waited; evictions = j .evictions; run = j .run; timeouts = j .timeouts }
+ends j = record {
+  ask = j .ask;
+  state = Finished;
+  since = j .since;
+  start = j .start;
+  remaining = j .remaining;
+  waited = j .waited;
+  evictions =
+      j .evictions;
+  run = j .run;
+  timeouts = j .timeouts;
+}
 
 -- run seconds: the clock less the start, or 0 when the start is later
 abbrev pub runSeconds : Job → Float → Float
@@ -40,11 +73,33 @@ leftAfter j clock = let left = sub binary64 (j .remaining) (runSeconds j clock) 
 
 -- A victim: one more eviction, it waits from the clock on, and what it ran is taken off what remains.
 unfoldable pub evicted : Job → Float → Job
-evicted j clock = record { ask = j .ask; state = Waiting; since = clock; start = j .start; remaining = leftAfter j clock; waited = j .waited; evictions = (j .evictions + 1) % 2 ^ 32; run = j .run; timeouts = j .timeouts }
+evicted j clock = record {
+  ask = j .ask;
+  state = Waiting;
+  since = clock;
+  start = j .start;
+  remaining = leftAfter j clock;
+  waited =
+      j .waited;
+  evictions = (j .evictions + 1) % 2 ^ 32;
+  run = j .run;
+  timeouts = j .timeouts;
+}
 
 -- Placed in the present pass, to start at its end.
 unfoldable pub placed : Job → Job
-placed j = record { ask = j .ask; state = Placed; since = j .since; start = j .start; remaining = j .remaining; waited = j .waited; evictions = j .evictions; run = j .run; timeouts = j .timeouts }
+placed j = record {
+  ask = j .ask;
+  state = Placed;
+  since = j .since;
+  start = j .start;
+  remaining = j .remaining;
+  waited = j .waited;
+  evictions =
+      j .evictions;
+  run = j .run;
+  timeouts = j .timeouts;
+}
 
 -- reconfiguration seconds are added to the start after a cut
 abbrev pub delayed : Float → Options → Bool → Float
@@ -64,4 +119,15 @@ completionAt j start multiplier = add binary64 start (mul binary64 (j .remaining
 
 -- A start: run generation + 1, a gang's timeout generation + 1, waited grows by the start less waiting-since.
 unfoldable pub started : Job → Float → Job
-started j at = record { ask = j .ask; state = Running; since = j .since; start = at; remaining = j .remaining; waited = add binary64 (j .waited) (sub binary64 at (j .since)); evictions = j .evictions; run = (j .run + 1) % 2 ^ 32; timeouts = raised (j .timeouts) (j .ask .gang) }
+started j at = record {
+  ask = j .ask;
+  state = Running;
+  since = j .since;
+  start = at;
+  remaining = j .remaining;
+  waited =
+      add binary64 (j .waited) (sub binary64 at (j .since));
+  evictions = j .evictions;
+  run = (j .run + 1) % 2 ^ 32;
+  timeouts = raised (j .timeouts) (j .ask .gang);
+}

@@ -10,9 +10,10 @@ use lib.Ieee.{Float}
 use borrow.Author.Tests.{ne-eqb}
 use Rattle.laws.specs.Search.{has, has-at, has-append}
 use Rattle.laws.specs.Sort.{only}
+use Rattle.laws.specs.Tables.{take-least}
 use Rattle.model.specs.Job.{noJob}
 use Rattle.model.specs.declared.job.Job.{Job}
-use Rattle.eligible.specs.More.{take-next, take-least, only-take, only-skip, only-length}
+use Rattle.eligible.specs.More.{take-next, only-take, only-skip, only-length}
 use Rattle.eligible.specs.Chosen.{chosen}
 use Rattle.eligible.specs.Turns.{Kept, kept-none, kept-add, kept-done}
 use Rattle.line.specs.Line.{joined, joinedAll}
@@ -22,7 +23,8 @@ use Rattle.line.specs.declared.join.Line.{Line}
 -- ---- victims join
 
 -- first these, then those
-pub joined-append : (clock : Float) (jobs : List Job) (by : ℕ) (line : Line) (vs ws : List ℕ) → joinedAll clock jobs by line (vs ++ ws) ≡ joinedAll clock jobs by (joinedAll clock jobs by line vs) ws
+pub joined-append : (clock : Float) (jobs : List Job) (by : ℕ) (line : Line) (vs ws : List ℕ) →
+    joinedAll clock jobs by line (vs ++ ws) ≡ joinedAll clock jobs by (joinedAll clock jobs by line vs) ws
 unfolding joinedAll
 joined-append clock jobs by line [] ws = refl
 joined-append clock jobs by line (v ∷ vs) ws = joined-append clock jobs by (joined clock by line v (getD jobs v noJob .remaining)) vs ws
@@ -34,12 +36,14 @@ module _ (clock : Float) (jobs : List Job) (by : ℕ) (line : Line) (ids : List 
   joined-none = refl
 
   -- one more
-  pub joined-next : (after : Line) (i : ℕ) → i < length ids → after ≡ joinedAll clock jobs by line (take i ids) → joined clock by after (getD ids i 0) (getD jobs (getD ids i 0) noJob .remaining) ≡ joinedAll clock jobs by line (take (i + 1) ids)
+  pub joined-next : (after : Line) (i : ℕ) → i < length ids → after ≡ joinedAll clock jobs by line (take i ids) →
+      joined clock by after (getD ids i 0) (getD jobs (getD ids i 0) noJob .remaining) ≡ joinedAll clock jobs by line (take (i + 1) ids)
   unfolding joinedAll
   joined-next after i h e = rw (take-next ids i 0 h, joined-append clock jobs by line (take i ids) (getD ids i 0 ∷ []), e)
 
   -- all of them
-  pub joined-done : (after : Line) (i count : ℕ) → i ≡ min count 128 → length ids ≡ 128 → after ≡ joinedAll clock jobs by line (take i ids) → after ≡ joinedAll clock jobs by line (take count ids)
+  pub joined-done : (after : Line) (i count : ℕ) → i ≡ min count 128 → length ids ≡ 128 → after ≡ joinedAll clock jobs by line (take i ids) →
+      after ≡ joinedAll clock jobs by line (take count ids)
   joined-done after i count m l e = e ∙ rw (m, take-least count 128 ids (omega arith))
 
 -- ---- the search for one
@@ -73,13 +77,15 @@ module _ (jobs : List Job) (queue : List ℕ) (i : ℕ) (within : i < length que
   still-room = omega (arith, only-length (waitsAt jobs) (take i queue), length-take i queue)
 
   -- a turn that keeps the one at hand
-  pub waiting-take : (ids : List ℕ) (k : ℕ) → waitsAt jobs (getD queue i 0) ≡ true → Kept ids k (stillWaiting jobs queue i) → Kept (set ids k (getD queue i 0)) (k + 1) (stillWaiting jobs queue (i + 1))
+  pub waiting-take : (ids : List ℕ) (k : ℕ) → waitsAt jobs (getD queue i 0) ≡ true → Kept ids k (stillWaiting jobs queue i) →
+      Kept (set ids k (getD queue i 0)) (k + 1) (stillWaiting jobs queue (i + 1))
   unfolding stillWaiting
   waiting-take ids k t r =
       rw (only-take (waitsAt jobs) queue i 0 within t) (kept-add ids k (getD queue i 0) (stillWaiting jobs queue i) still-room r)
 
   -- a turn that does not
-  pub waiting-skip : (ids : List ℕ) (k : ℕ) → waitsAt jobs (getD queue i 0) ≡ false → Kept ids k (stillWaiting jobs queue i) → Kept ids k (stillWaiting jobs queue (i + 1))
+  pub waiting-skip : (ids : List ℕ) (k : ℕ) → waitsAt jobs (getD queue i 0) ≡ false → Kept ids k (stillWaiting jobs queue i) →
+      Kept ids k (stillWaiting jobs queue (i + 1))
   unfolding stillWaiting
   waiting-skip ids k t r = rw (only-skip (waitsAt jobs) queue i 0 within t) r
 
@@ -90,7 +96,8 @@ waiting-size jobs queue ids k i r =
     omega (arith, r .size, only-length (waitsAt jobs) (take i queue), length-take i queue)
 
 -- all were looked at
-pub waiting-done : (jobs : List Job) (queue ids : List ℕ) (k i n : ℕ) → i ≡ min n 128 → length queue ≡ 128 → Kept ids k (stillWaiting jobs queue i) → record { ids = ids; count = k } ≡ chosen (stillWaiting jobs queue n)
+pub waiting-done : (jobs : List Job) (queue ids : List ℕ) (k i n : ℕ) → i ≡ min n 128 → length queue ≡ 128 → Kept ids k (stillWaiting jobs queue i) →
+    record { ids = ids; count = k } ≡ chosen (stillWaiting jobs queue n)
 unfolding stillWaiting
 waiting-done jobs queue ids k i n m l r =
     let e : take i queue ≡ take n queue = rw (m, take-least n 128 queue (omega arith)) in

@@ -1,7 +1,7 @@
 -- Laws of the arrivals: how many, one more, and over an empty room.
 use mathlib.Core.Path.{_≡_, refl, sym, ap, _∙_}
 use mathlib.Core.List.{List, [], _∷_, _++_}
-use Prim.Native.Nat.{ℕ, zero, suc, _+_, _≤_, _<_}
+use Prim.Native.Nat.{ℕ, suc, _+_, _≤_, _<_}
 use native.Mathlib.Numerals.{add-one}
 use native.Mathlib.Omega.{arith}
 use lib.ListN.{length, take, set, getD, replicate, length-take}
@@ -37,13 +37,15 @@ unfolding arrivalsOver arrivalsFrom
 over-none room jobs = refl
 
 -- one more job is written at its number
-pub over-more : (room : List Event) (jobs : List Job) (i : ℕ) → i < length jobs → set (arrivalsOver room jobs i) i (arrivalOf i (getD jobs i noJob)) ≡ arrivalsOver room jobs (i + 1)
+pub over-more : (room : List Event) (jobs : List Job) (i : ℕ) → i < length jobs →
+    set (arrivalsOver room jobs i) i (arrivalOf i (getD jobs i noJob)) ≡ arrivalsOver room jobs (i + 1)
 unfolding arrivalsOver
 over-more room jobs i h =
     let n : length (take i jobs) ≡ i = length-take-le i jobs (omega arith) in
     let m : 0 + length (arrivalsFrom 0 (take i jobs)) ≡ i = rw (arrivals-length 0 (take i jobs)) (omega arith) in
     let z : 0 + length (take i jobs) ≡ i = omega arith in
-    let t : arrivalsFrom 0 (take (i + 1) jobs) ≡ arrivalsFrom 0 (take i jobs) ++ (arrivalOf i (getD jobs i noJob) ∷ []) = rw (add-one, take-suc jobs i noJob h, arrivals-snoc 0 (take i jobs) (getD jobs i noJob), z) in
+    let t : arrivalsFrom 0 (take (i + 1) jobs) ≡ arrivalsFrom 0 (take i jobs) ++ (arrivalOf i (getD jobs i noJob) ∷ []) =
+    rw (add-one, take-suc jobs i noJob h, arrivals-snoc 0 (take i jobs) (getD jobs i noJob), z) in
     sym (rw (t, sets-snoc room 0 (arrivalsFrom 0 (take i jobs)) (arrivalOf i (getD jobs i noJob)), m))
 
 -- past the table nothing is added

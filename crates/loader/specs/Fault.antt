@@ -1,5 +1,5 @@
 -- The faults of a whole record, told after its last field, at its kind.
-use mathlib.Core.Bool.{Bool, true, false, not}
+use mathlib.Core.Bool.{Bool, not}
 use Prim.Native.Nat.{ℕ}
 use lib.Dec.{ltb, eqb}
 use lib.ListN.{getD}

@@ -7,7 +7,6 @@ use lib.Dec.{ltb, eqb}
 use borrow.Author.Tests.{ltb-true, eqb-false}
 use Rattle.laws.specs.Choice.{pick}
 use Rattle.model.specs.Sizes as Sizes
-use Rattle.trace.specs.declared.answer.Answer.{Answer}
 use Rattle.trace.specs.declared.answer.Answer.the-variants.{Accepted, GpuBeforeNode, TableFull}
 use Rattle.loader.specs.Fault.{roomFor, onNode}
 

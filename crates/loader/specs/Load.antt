@@ -27,7 +27,18 @@ use Rattle.loader.specs.declared.load.Loaded.{Loaded}
 
 -- The plan of the loaded tables: nobody waits, the arrivals are queued in job order, the clock is 0.0.
 unfoldable pub planOf : Tables → Plan
-planOf t = record { setting = t .setting; gpus = t .gpus; jobs = t .jobs; queue = replicate Sizes.jobs 0; waiting = 0; events = arrivals (t .jobs) (t .setting .jobs); next = t .setting .jobs; clock = zero·0; totals = noTotals }
+planOf t = record {
+  setting = t .setting;
+  gpus = t .gpus;
+  jobs = t .jobs;
+  queue = replicate Sizes.jobs 0;
+  waiting = 0;
+  events =
+      arrivals (t .jobs) (t .setting .jobs);
+  next = t .setting .jobs;
+  clock = zero·0;
+  totals = noTotals;
+}
 
 abbrev pub isEnd : Record → Bool
 isEnd R.End = true

@@ -1,6 +1,6 @@
 -- Laws of the turns: one turn of those that are left, and where the next begins; the load into tables of zeros.
 use mathlib.Core.Path.{_≡_}
-use mathlib.Core.Bool.{Bool, true, false}
+use mathlib.Core.Bool.{true, false}
 use mathlib.Core.List.{List}
 use Prim.Native.Nat.{ℕ, suc, _+_, _-_, _≤_, _<_}
 use native.Mathlib.Omega.{arith}
@@ -39,7 +39,8 @@ follow-inside n at end r t h =
     (pick-either (UpTo n) (accepted fault) (turnOn end (putRecord t r)) (turnOver fault t) h (omega arith))
 
 -- the record at a place, and the place of its refusal, lie inside the trace
-pub read-inside : (trace : List ℕ) (at : ℕ) → at ≤ length trace → (at + placeOf (recordRead (drop at trace) .answer) ≤ length trace) × (at + recordRead (drop at trace) .used ≤ length trace)
+pub read-inside : (trace : List ℕ) (at : ℕ) → at ≤ length trace →
+    (at + placeOf (recordRead (drop at trace) .answer) ≤ length trace) × (at + recordRead (drop at trace) .used ≤ length trace)
 read-inside trace at h =
     let i = record-inside (drop at trace) in
     (omega (arith, i .0, length-drop at trace), omega (arith, i .1, length-drop at trace))
@@ -70,7 +71,8 @@ turns-end trace n i at t h = let e : n - i ≡ 0 = omega arith in rw e
 
 -- what is loaded, into tables of zeros
 abbrev pub zeroTables : Tables
-zeroTables = wholeTables noLoading (replicate Sizes.nodes 0) (replicate Sizes.tenants 0) (replicate Sizes.profiles 0) (replicate Sizes.gpus (replicate 10 0)) (replicate Sizes.jobs (replicate 22 0))
+zeroTables = wholeTables noLoading (replicate Sizes.nodes 0) (replicate Sizes.tenants 0) (replicate Sizes.profiles 0)
+    (replicate Sizes.gpus (replicate 10 0)) (replicate Sizes.jobs (replicate 22 0))
 
 -- they hold nothing
 pub zeros-tables : zeroTables ≡ emptyTables

@@ -1,7 +1,7 @@
 -- The tables as they are loaded: each record is put after those before it.
-use mathlib.Core.Bool.{Bool, true, false}
+use mathlib.Core.Bool.{true, false}
 use mathlib.Core.List.{List}
-use Prim.Native.Nat.{ℕ, _+_, _-_, _<_}
+use Prim.Native.Nat.{ℕ, _+_, _-_}
 use lib.ListN.{set, replicate}
 use Rattle.model.specs.Sizes as Sizes
 use Rattle.model.specs.Gpu.{noGpu}
@@ -36,19 +36,57 @@ emptyTables = record { setting = emptySetting; gpus = replicate Sizes.gpus noGpu
 
 -- a GPU as loaded, on the latest node: nobody's and uncut
 abbrev pub gpuOf : Card → ℕ → Gpu
-gpuOf card nodes = record { node = nodes - 1; kind = card .kind; memory = card .memory; group = card .group; mig = card .mig; owner = 0; profile = 0; slices = 0; owners = replicate Sizes.slices 0 }
+gpuOf card nodes = record {
+  node = nodes - 1;
+  kind = card .kind;
+  memory = card .memory;
+  group = card .group;
+  mig = card .mig;
+  owner = 0;
+  profile =
+      0;
+  slices = 0;
+  owners = replicate Sizes.slices 0;
+}
 
 -- 1: a node after those before it
 unfoldable pub putNode : Setting → ℕ → Setting
-putNode s site = record { sites = set (s .sites) (s .nodes) site; nodes = s .nodes + 1; gpus = s .gpus; jobs = s .jobs; quotas = s .quotas; mosts = s .mosts; options = s .options }
+putNode s site = record {
+  sites = set (s .sites) (s .nodes) site;
+  nodes = s .nodes + 1;
+  gpus = s .gpus;
+  jobs = s .jobs;
+  quotas = s .quotas;
+  mosts =
+      s .mosts;
+  options = s .options;
+}
 
 -- 3: a tenant's quota, kept plus 1
 unfoldable pub putLimit : Setting → ℕ → ℕ → Setting
-putLimit s tenant quota = record { sites = s .sites; nodes = s .nodes; gpus = s .gpus; jobs = s .jobs; quotas = set (s .quotas) tenant (quota + 1); mosts = s .mosts; options = s .options }
+putLimit s tenant quota = record {
+  sites = s .sites;
+  nodes = s .nodes;
+  gpus = s .gpus;
+  jobs = s .jobs;
+  quotas =
+      set (s .quotas) tenant (quota + 1);
+  mosts = s .mosts;
+  options = s .options;
+}
 
 -- 4: a profile's most
 unfoldable pub putProfile : Setting → ℕ → ℕ → Setting
-putProfile s profile most = record { sites = s .sites; nodes = s .nodes; gpus = s .gpus; jobs = s .jobs; quotas = s .quotas; mosts = set (s .mosts) profile most; options = s .options }
+putProfile s profile most = record {
+  sites = s .sites;
+  nodes = s .nodes;
+  gpus = s .gpus;
+  jobs = s .jobs;
+  quotas = s .quotas;
+  mosts =
+      set (s .mosts) profile most;
+  options = s .options;
+}
 
 -- one more GPU, one more job, the options
 unfoldable pub oneGpu : Setting → Setting

@@ -105,7 +105,9 @@ fn follow(
     r: Record,
     t: Loading,
 ) -> Going
-    ensures { λ u. ⌜ wholeTurn u (now (sites .exit)) (now (quotas .exit)) (now (mosts .exit)) (now (gpus .exit)) (now (jobs .exit)) ≡ follow length at end r (wholeTables t (now (sites .entry)) (now (quotas .entry)) (now (mosts .entry)) (now (gpus .entry)) (now (jobs .entry))) ⌝ }
+    ensures { λ u. ⌜ wholeTurn u (now (sites .exit)) (now (quotas .exit)) (now (mosts .exit)) (now (gpus .exit)) (now (jobs .exit))
+        ≡ follow length at end r (wholeTables t (now (sites .entry)) (now (quotas .entry)) (now (mosts .entry)) (now (gpus .entry))
+        (now (jobs .entry))) ⌝ }
 {
     if is_end(r) {
         if end == length {
@@ -132,7 +134,9 @@ fn take_turn(
     t: Loading,
 ) -> Going
     requires { ⌜ at ≤ length (now trace) ⌝ }
-    ensures { λ u. ⌜ wholeTurn u (now (sites .exit)) (now (quotas .exit)) (now (mosts .exit)) (now (gpus .exit)) (now (jobs .exit)) ≡ turn (now (trace .entry)) at (wholeTables t (now (sites .entry)) (now (quotas .entry)) (now (mosts .entry)) (now (gpus .entry)) (now (jobs .entry))) ⌝ }
+    ensures { λ u. ⌜ wholeTurn u (now (sites .exit)) (now (quotas .exit)) (now (mosts .exit)) (now (gpus .exit)) (now (jobs .exit))
+        ≡ turn (now (trace .entry)) at (wholeTables t (now (sites .entry)) (now (quotas .entry)) (now (mosts .entry)) (now (gpus .entry))
+        (now (jobs .entry))) ⌝ }
 {
     let read = read_record(&trace[at..]);
     let answer = read.answer;
@@ -163,7 +167,9 @@ fn take_turns(
     gpus: &mut [[u64; CARD]; GPUS],
     jobs: &mut [[u64; ROW]; JOBS],
 ) -> Going
-    ensures { λ r. ⌜ finished (wholeTurn r (now (sites .exit)) (now (quotas .exit)) (now (mosts .exit)) (now (gpus .exit)) (now (jobs .exit))) ≡ turns (length (now (trace .entry))) (now (trace .entry)) 0 (wholeTables noLoading (now (sites .entry)) (now (quotas .entry)) (now (mosts .entry)) (now (gpus .entry)) (now (jobs .entry))) ⌝ }
+    ensures { λ r. ⌜ finished (wholeTurn r (now (sites .exit)) (now (quotas .exit)) (now (mosts .exit)) (now (gpus .exit)) (now (jobs .exit)))
+        ≡ turns (length (now (trace .entry))) (now (trace .entry)) 0
+        (wholeTables noLoading (now (sites .entry)) (now (quotas .entry)) (now (mosts .entry)) (now (gpus .entry)) (now (jobs .entry))) ⌝ }
 {
     let n = trace.len();
     let mut t = no_loading();
@@ -190,7 +196,9 @@ pub fn load_tables(
     gpus: &mut [[u64; CARD]; GPUS],
     jobs: &mut [[u64; ROW]; JOBS],
 ) -> Going
-    ensures { λ r. ⌜ finished (wholeTurn r (now (sites .exit)) (now (quotas .exit)) (now (mosts .exit)) (now (gpus .exit)) (now (jobs .exit))) ≡ loadInto (now (trace .entry)) (wholeTables noLoading (now (sites .entry)) (now (quotas .entry)) (now (mosts .entry)) (now (gpus .entry)) (now (jobs .entry))) ⌝ }
+    ensures { λ r. ⌜ finished (wholeTurn r (now (sites .exit)) (now (quotas .exit)) (now (mosts .exit)) (now (gpus .exit)) (now (jobs .exit)))
+        ≡ loadInto (now (trace .entry)) (wholeTables noLoading (now (sites .entry)) (now (quotas .entry)) (now (mosts .entry))
+        (now (gpus .entry)) (now (jobs .entry))) ⌝ }
 {
     if TRACE_BYTES < trace.len() {
         return turn_over(Answer::TooLong(TRACE_BYTES), no_loading());
@@ -206,7 +214,8 @@ fn plan_of(
     gpus: &[[u64; CARD]; GPUS],
     jobs: &[[u64; ROW]; JOBS],
 ) -> Plan
-    ensures { λ r. ⌜ r ≡ planOf (wholeTables t (now (sites .entry)) (now (quotas .entry)) (now (mosts .entry)) (now (gpus .entry)) (now (jobs .entry))) ⌝ }
+    ensures { λ r. ⌜ r ≡ planOf (wholeTables t (now (sites .entry)) (now (quotas .entry)) (now (mosts .entry)) (now (gpus .entry))
+        (now (jobs .entry))) ⌝ }
 {
     let setting = setting_of(t, sites, quotas, mosts);
     let mut room = [[0u64; ENTRY]; EVENTS];
@@ -241,7 +250,8 @@ fn finished(
     gpus: &[[u64; CARD]; GPUS],
     jobs: &[[u64; ROW]; JOBS],
 ) -> Loaded
-    ensures { λ r. ⌜ r ≡ finished (wholeTurn t (now (sites .entry)) (now (quotas .entry)) (now (mosts .entry)) (now (gpus .entry)) (now (jobs .entry))) ⌝ }
+    ensures { λ r. ⌜ r ≡ finished (wholeTurn t (now (sites .entry)) (now (quotas .entry)) (now (mosts .entry)) (now (gpus .entry))
+        (now (jobs .entry))) ⌝ }
 {
     let answer = t.answer;
     let loading = t.loading;

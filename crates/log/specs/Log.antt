@@ -30,7 +30,11 @@ emptyLog = record { table = replicate most noDecision; count = 0 }
 
 -- One more decision; a full log stays as it is.
 unfoldable pub told : Log → ℕ → Kind → ℕ → ℕ → Log
-told log time kind job other = record { table = set (log .table) (log .count) (record { time = time; kind = kind; job = job; other = other }); count = onward (log .count) most }
+told log time kind job other = record {
+  table =
+      set (log .table) (log .count) (record { time = time; kind = kind; job = job; other = other });
+  count = onward (log .count) most;
+}
 
 -- The decisions so far.
 abbrev pub decisions : Log → List Decision
@@ -46,7 +50,8 @@ words [] = []
 words (d ∷ ds) = wordsOf d ++ words ds
 
 -- with room left the decision stands behind those before it
-pub told-behind : (log : Log) (time : ℕ) (kind : Kind) (job other : ℕ) → length (log .table) ≡ most → log .count < most → decisions (told log time kind job other) ≡ decisions log ++ (record { time = time; kind = kind; job = job; other = other } ∷ [])
+pub told-behind : (log : Log) (time : ℕ) (kind : Kind) (job other : ℕ) → length (log .table) ≡ most → log .count < most →
+    decisions (told log time kind job other) ≡ decisions log ++ (record { time = time; kind = kind; job = job; other = other } ∷ [])
 unfolding told
 told-behind log time kind job other e h =
     onward-take (log .table) (log .count) most (record { time = time; kind = kind; job = job; other = other }) e h

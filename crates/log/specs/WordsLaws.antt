@@ -1,5 +1,5 @@
 -- How the words of the decisions come to stand in front of a buffer, decision after decision.
-use mathlib.Core.Path.{_≡_, refl, sym, ap, _∙_}
+use mathlib.Core.Path.{_≡_, refl, ap, _∙_}
 use mathlib.Core.Logic.{⊎-elim}
 use mathlib.Core.List.{List, [], _∷_, _++_, append-assoc}
 use Prim.Native.Nat.{ℕ, suc, _+_, _*_, _<_, _≤_, min}
@@ -15,7 +15,8 @@ use Rattle.log.specs.declared.Decision.{Decision}
 -- a word behind those in front
 put-next : (ws out : List ℕ) (k x : ℕ) → length ws ≡ k → k < length out → set (ws ++ drop k out) k x ≡ (ws ++ (x ∷ [])) ++ drop (k + 1) out
 put-next ws out k x e h =
-    rw (drop-cons out k 0 h, ← e, add-one (length ws), append-assoc ws (x ∷ []) (drop (suc (length ws)) out)) (set-append-seam ws (getD out (length ws) 0) (drop (suc (length ws)) out) x)
+    rw (drop-cons out k 0 h, ← e, add-one (length ws), append-assoc ws (x ∷ []) (drop (suc (length ws)) out))
+    (set-append-seam ws (getD out (length ws) 0) (drop (suc (length ws)) out) x)
 
 -- the next place, written otherwise
 at-next : (ws out : List ℕ) (k n x : ℕ) → length ws ≡ k → n ≡ k + 1 → k < length out → set (ws ++ drop k out) k x ≡ (ws ++ (x ∷ [])) ++ drop n out
@@ -59,20 +60,23 @@ words-length [] = omega arith
 words-length (x ∷ l) = omega (arith, words-length l)
 
 -- a turn writes the decision at hand
-pub words-turn : (table : List Decision) (out before : List ℕ) (i : ℕ) (d : Decision) → i < length table → 4 * i + 4 ≤ length before → out ≡ words (take i table) ++ drop (4 * i) before → putWords out (4 * i) (getD table i d) ≡ words (take (i + 1) table) ++ drop (4 * (i + 1)) before
+pub words-turn : (table : List Decision) (out before : List ℕ) (i : ℕ) (d : Decision) → i < length table → 4 * i + 4 ≤ length before →
+    out ≡ words (take i table) ++ drop (4 * i) before → putWords out (4 * i) (getD table i d) ≡ words (take (i + 1) table) ++ drop (4 * (i + 1)) before
 words-turn table out before i d h k e =
     let n : length (words (take i table)) ≡ 4 * i = words-length (take i table) ∙ ap (λ (m : ℕ). 4 * m) (length-take-le i table (omega arith)) in
     let m : 4 * (i + 1) ≡ 4 * i + 4 = omega arith in
     rw (e, m, add-one i, take-suc table i d h, words-snoc (take i table) (getD table i d)) (put-four (words (take i table)) before (4 * i) (getD table i d) n k)
 
 -- the buffer stays as long as it was
-pub words-size : (table : List Decision) (out before : List ℕ) (i : ℕ) → i ≤ length table → 4 * i ≤ length before → out ≡ words (take i table) ++ drop (4 * i) before → length out ≡ length before
+pub words-size : (table : List Decision) (out before : List ℕ) (i : ℕ) → i ≤ length table → 4 * i ≤ length before →
+    out ≡ words (take i table) ++ drop (4 * i) before → length out ≡ length before
 words-size table out before i h k e =
     let n : length (words (take i table)) ≡ 4 * i = words-length (take i table) ∙ ap (λ (m : ℕ). 4 * m) (length-take-le i table h) in
     rw e (omega (arith, n, length-append (words (take i table)) (drop (4 * i) before), length-drop (4 * i) before))
 
 -- past the last decision all stand in front
-pub words-done : (table : List Decision) (out before : List ℕ) (count n i : ℕ) → length table ≡ 129 → n ≡ min count 129 → i ≡ n → out ≡ words (take i table) ++ drop (4 * i) before → out ≡ over (words (take count table)) before
+pub words-done : (table : List Decision) (out before : List ℕ) (count n i : ℕ) → length table ≡ 129 → n ≡ min count 129 → i ≡ n →
+    out ≡ words (take i table) ++ drop (4 * i) before → out ≡ over (words (take count table)) before
 words-done table out before count n i l m e h =
     let t : take i table ≡ take count table = take-part table count n i l m e in
     let k : length (words (take i table)) ≡ 4 * i = words-length (take i table) ∙ ap (λ (x : ℕ). 4 * x) (length-take-le i table (omega arith)) in

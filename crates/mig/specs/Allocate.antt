@@ -63,16 +63,19 @@ slicesAllocated gpus n profile most want owner =
 
 module _ (gpus : List Gpu) (n profile most want owner : ℕ) where
   -- free slices are enough
-  pub allocated-free : (given : List Gpu) → enoughFree gpus n profile want ≡ true → given ≡ givenInOrder gpus n profile want owner Sizes.gpus → record { gpus = given; placed = true; cut = false } ≡ slicesAllocated gpus n profile most want owner
+  pub allocated-free : (given : List Gpu) → enoughFree gpus n profile want ≡ true → given ≡ givenInOrder gpus n profile want owner Sizes.gpus →
+      record { gpus = given; placed = true; cut = false } ≡ slicesAllocated gpus n profile most want owner
   unfolding slicesAllocated
   allocated-free given h e = rw (h, e)
 
   -- a GPU is cut
-  pub allocated-cut : (given : List Gpu) → enoughFree gpus n profile want ≡ false → cutHelps gpus n most want ≡ true → given ≡ cutFor gpus n profile want owner → record { gpus = given; placed = true; cut = true } ≡ slicesAllocated gpus n profile most want owner
+  pub allocated-cut : (given : List Gpu) → enoughFree gpus n profile want ≡ false → cutHelps gpus n most want ≡ true →
+      given ≡ cutFor gpus n profile want owner → record { gpus = given; placed = true; cut = true } ≡ slicesAllocated gpus n profile most want owner
   unfolding slicesAllocated
   allocated-cut given h k e = rw (h, k, e)
 
   -- neither
-  pub allocated-none : enoughFree gpus n profile want ≡ false → cutHelps gpus n most want ≡ false → record { gpus = gpus; placed = false; cut = false } ≡ slicesAllocated gpus n profile most want owner
+  pub allocated-none : enoughFree gpus n profile want ≡ false → cutHelps gpus n most want ≡ false →
+      record { gpus = gpus; placed = false; cut = false } ≡ slicesAllocated gpus n profile most want owner
   unfolding slicesAllocated
   allocated-none h k = rw (h, k)

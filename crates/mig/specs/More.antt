@@ -3,7 +3,7 @@ use mathlib.Core.Path.{_≡_, refl, sym, _∙_}
 use mathlib.Core.Logic.{⊎-elim}
 use mathlib.Core.Bool.{Bool, true, false, _&&_}
 use mathlib.Core.List.{List, [], _∷_, _++_, map, append-nil}
-use Prim.Native.Nat.{ℕ, zero, suc, _+_, _-_, _*_, _<_, _≤_, min}
+use Prim.Native.Nat.{ℕ, zero, suc, _+_, _-_, _*_, _<_, _≤_}
 use native.Mathlib.Nat.{suc-mul}
 use native.Mathlib.Numerals.{add-one}
 use native.Mathlib.Omega.{arith}
@@ -11,7 +11,7 @@ use lib.Dec.{ltb, eqb}
 use lib.ListN.{length, getD, take, drop, set, drop-of-length-le, length-set}
 use lib.Seq.{take-suc-set, drop-cons, drop-set-lt, append-snoc, take-all, take-nil, getD-set-same, getD-set-other}
 use borrow.Author.Tests.{lt-ltb, ltb-true, eqb-false}
-use Rattle.laws.specs.Tests.{split, and-both, or-none, never-both, le-or-lt}
+use Rattle.laws.specs.Tests.{split, and-both, or-none, never-both}
 use Rattle.laws.specs.Lists.{All, Distinct, all-weaken, all-both}
 use Rattle.laws.specs.Search.{has, has-cases, those, those-step, those-take, those-skip, those-end}
 use Rattle.laws.specs.Sums.{bit, sumOver, sum-set}
@@ -30,7 +30,8 @@ turn-drop t i d h = rw add-one (drop-cons t i d h)
 
 module _ {A : Type 0} (f : A → A) where
   -- a turn of a loop that changes each element
-  pub map-turn : (t : List A) (i : ℕ) (d : A) → i < length t → take (i + 1) (set t i (f (getD t i d))) ++ map f (drop (i + 1) (set t i (f (getD t i d)))) ≡ take i t ++ map f (drop i t)
+  pub map-turn : (t : List A) (i : ℕ) (d : A) → i < length t →
+      take (i + 1) (set t i (f (getD t i d))) ++ map f (drop (i + 1) (set t i (f (getD t i d)))) ≡ take i t ++ map f (drop i t)
   map-turn t i d h =
       rw (turn-rest t i (f (getD t i d)), turn-set t (map f (drop (i + 1) t)) i (f (getD t i d)) h, turn-drop t i d h)
 
@@ -68,14 +69,16 @@ put-left left b h = ltb-true 0 left (and-both (ltb 0 left) b h .0)
 
 module _ {A : Type 0} (p : ℕ → Bool) (n : ℕ) (x : A) where
   -- a turn that writes
-  pub put-turn : (i left : ℕ) (t : List A) → i < n → (ltb 0 left && p i) ≡ true → put (set t i x) (take (left - 1) (those p (n - (i + 1)) (i + 1))) x ≡ put t (take left (those p (n - i) i)) x
+  pub put-turn : (i left : ℕ) (t : List A) → i < n → (ltb 0 left && p i) ≡ true →
+      put (set t i x) (take (left - 1) (those p (n - (i + 1)) (i + 1))) x ≡ put t (take left (those p (n - i) i)) x
   unfolding put
   put-turn i zero t h e = absurd (omega (arith, put-left 0 (p i) e))
   put-turn i (suc m) t h e =
       let s : suc m - 1 ≡ m = omega arith in rw (those-take p n i h (and-both (ltb 0 (suc m)) (p i) e .1), s)
 
   -- a turn that passes over
-  pub put-pass : (i left : ℕ) (t : List A) → i < n → (ltb 0 left && p i) ≡ false → put t (take left (those p (n - (i + 1)) (i + 1))) x ≡ put t (take left (those p (n - i) i)) x
+  pub put-pass : (i left : ℕ) (t : List A) → i < n → (ltb 0 left && p i) ≡ false →
+      put t (take left (those p (n - (i + 1)) (i + 1))) x ≡ put t (take left (those p (n - i) i)) x
   put-pass i zero t h e = refl
   put-pass i (suc m) t h e = rw (those-skip p n i h (rw (lt-ltb 0 (suc m) (omega arith)) at e))
 
@@ -83,14 +86,6 @@ module _ {A : Type 0} (p : ℕ → Bool) (n : ℕ) (x : A) where
   pub put-end : (i left : ℕ) (t : List A) → n ≤ i → t ≡ put t (take left (those p (n - i) i)) x
   unfolding put
   put-end i left t h = rw (those-end p n i h, take-nil)
-
--- the first n of a table are the first of as many as it has
-pub take-least : {A : Type 0} (n m : ℕ) (l : List A) → length l ≡ m → take (min n m) l ≡ take n l
-take-least n m l h =
-    ⊎-elim
-    (λ a. let e : min n m ≡ n = omega arith in rw e)
-    (λ a. let e : min n m ≡ m = omega arith in rw (e, take-all m l (omega arith), take-all n l (omega arith)))
-    (le-or-lt n m)
 
 -- ---- what several writes change
 
@@ -124,13 +119,21 @@ module _ {A : Type 0} (x : A) where
       (has-cases k i l e))
 
   -- a weight that the places had not grows with each
-  pub put-sum : (w : A → ℕ) (d : A) (l : List ℕ) (t : List A) → Distinct l → All (λ i. (i < length t) × (w (getD t i d) ≡ 0)) l → sumOver w (put t l x) ≡ sumOver w t + length l * w x
+  pub put-sum : (w : A → ℕ) (d : A) (l : List ℕ) (t : List A) → Distinct l → All (λ i. (i < length t) × (w (getD t i d) ≡ 0)) l →
+      sumOver w (put t l x) ≡ sumOver w t + length l * w x
   unfolding put
   put-sum w d [] t s h = omega arith
   put-sum w d (i ∷ l) t s h =
       let a : sumOver w (set t i x) + w (getD t i d) ≡ sumOver w t + w x = sum-set w t i x d (h .0 .0) in
       let m : suc (length l) * w x ≡ length l * w x + w x = suc-mul (length l) (w x) in
-      omega (arith, h .0 .1, put-sum w d l (set t i x) (s .1) (all-weaken (λ j. (i ≡ j → ⊥) × ((j < length t) × (w (getD t j d) ≡ 0))) (λ j. (j < length (set t i x)) × (w (getD (set t i x) j d) ≡ 0)) l (λ j q. (rw (length-set t i x) (q .1 .0), rw (getD-set-other t i j x d (λ e. q .0 (sym e))) (q .1 .1))) (all-both (λ j. i ≡ j → ⊥) (λ j. (j < length t) × (w (getD t j d) ≡ 0)) l (s .0) (h .1))))
+      omega (
+        arith,
+        h .0 .1,
+        put-sum w d l (set t i x) (s .1)
+            (all-weaken (λ j. (i ≡ j → ⊥) × ((j < length t) × (w (getD t j d) ≡ 0))) (λ j. (j < length (set t i x)) × (w (getD (set t i x) j d) ≡ 0)) l
+            (λ j q. (rw (length-set t i x) (q .1 .0), rw (getD-set-other t i j x d (λ e. q .0 (sym e))) (q .1 .1)))
+            (all-both (λ j. i ≡ j → ⊥) (λ j. (j < length t) × (w (getD t j d) ≡ 0)) l (s .0) (h .1))),
+      )
 
 -- ---- a range of which all have the property
 

@@ -25,7 +25,18 @@ withoutOwner owner x = pick (eqb x owner) 0 x
 
 -- All that the owner holds on a GPU is nobody's; its cuts stay.
 unfoldable pub freed : ℕ → Gpu → Gpu
-freed owner g = record { node = g .node; kind = g .kind; memory = g .memory; group = g .group; mig = g .mig; owner = withoutOwner owner (g .owner); profile = g .profile; slices = g .slices; owners = map (withoutOwner owner) (g .owners) }
+freed owner g = record {
+  node = g .node;
+  kind = g .kind;
+  memory = g .memory;
+  group = g .group;
+  mig = g .mig;
+  owner =
+      withoutOwner owner (g .owner);
+  profile = g .profile;
+  slices = g .slices;
+  owners = map (withoutOwner owner) (g .owners);
+}
 
 -- ---- steps of the loop over the slices
 

@@ -31,11 +31,33 @@ freeSlices g profile = length (freeOn g profile)
 
 -- The GPU cut anew: nobody's, and cut for the profile into so many free slices.
 unfoldable pub cutAnew : Gpu → ℕ → ℕ → Gpu
-cutAnew g profile slices = record { node = g .node; kind = g .kind; memory = g .memory; group = g .group; mig = g .mig; owner = 0; profile = profile; slices = slices; owners = replicate Sizes.slices 0 }
+cutAnew g profile slices = record {
+  node = g .node;
+  kind = g .kind;
+  memory = g .memory;
+  group = g .group;
+  mig = g .mig;
+  owner = 0;
+  profile =
+      profile;
+  slices = slices;
+  owners = replicate Sizes.slices 0;
+}
 
 -- The GPU with other slice owners.
 abbrev pub withOwners : Gpu → List ℕ → Gpu
-withOwners g owners = record { node = g .node; kind = g .kind; memory = g .memory; group = g .group; mig = g .mig; owner = g .owner; profile = g .profile; slices = g .slices; owners = owners }
+withOwners g owners = record {
+  node = g .node;
+  kind = g .kind;
+  memory = g .memory;
+  group = g .group;
+  mig = g .mig;
+  owner = g .owner;
+  profile =
+      g .profile;
+  slices = g .slices;
+  owners = owners;
+}
 
 -- The first so many free slices of the profile on the GPU go to the owner.
 unfoldable pub givenSlices : Gpu → ℕ → ℕ → ℕ → Gpu

@@ -86,7 +86,8 @@ pub given-owner : (profile owner : ℕ) (g h : Gpu) → Given profile owner g h 
 given-owner profile owner g h a = ap (λ (x : Gpu). x .owner) (a .rest)
 
 -- any other owner has a slice after exactly if it had it before
-pub given-slice : (profile owner other k : ℕ) (g h : Gpu) → 0 < other → (other ≡ owner → ⊥) → Given profile owner g h → eqb (getD (h .owners) k 0) other ≡ eqb (getD (g .owners) k 0) other
+pub given-slice : (profile owner other k : ℕ) (g h : Gpu) → 0 < other → (other ≡ owner → ⊥) → Given profile owner g h →
+    eqb (getD (h .owners) k 0) other ≡ eqb (getD (g .owners) k 0) other
 given-slice profile owner other k g h o d a =
     ⊎-elim
     (λ e. rw e)
@@ -126,8 +127,10 @@ module _ (g : Gpu) (profile most owner : ℕ) (sized : length (g .owners) ≡ 7)
       (λ k. (0 ≤ k) × (k < 0 + sliceCount g) × (freeSlice g profile k ≡ true))
       (λ i. (i < length (g .owners)) × (w (getD (g .owners) i 0) ≡ 0))
       (take most (those (freeSlice g profile) (sliceCount g) 0))
-      (λ k h. let b : getD (g .owners) k 0 ≡ 0 = eqb-true (getD (g .owners) k 0) 0 (and-both (eqb (g .profile) profile) (eqb (getD (g .owners) k 0) 0) (h .2) .1) in (omega (arith, h .1), ap w b ∙ z))
-      (all-take (λ k. (0 ≤ k) × (k < 0 + sliceCount g) × (freeSlice g profile k ≡ true)) most (those (freeSlice g profile) (sliceCount g) 0) (those-each (freeSlice g profile) (sliceCount g) 0))
+      (λ k h. let b : getD (g .owners) k 0 ≡ 0 =
+      eqb-true (getD (g .owners) k 0) 0 (and-both (eqb (g .profile) profile) (eqb (getD (g .owners) k 0) 0) (h .2) .1) in (omega (arith, h .1), ap w b ∙ z))
+      (all-take (λ k. (0 ≤ k) × (k < 0 + sliceCount g) × (freeSlice g profile k ≡ true)) most (those (freeSlice g profile) (sliceCount g) 0)
+      (those-each (freeSlice g profile) (sliceCount g) 0))
 
   single : Distinct (take most (freeOn g profile))
   unfolding freeOn
@@ -137,24 +140,29 @@ module _ (g : Gpu) (profile most owner : ℕ) (sized : length (g .owners) ≡ 7)
   pub given-gain : 0 < owner → most ≤ freeSlices g profile → ownedSlices owner (givenSlices g profile most owner) ≡ ownedSlices owner g + most
   unfolding givenSlices ownedSlices
   given-gain o h =
-      let s : sumOver (isOf owner) (put (g .owners) (take most (freeOn g profile)) owner) ≡ sumOver (isOf owner) (g .owners) + length (take most (freeOn g profile)) * isOf owner owner =
+      let s : sumOver (isOf owner) (put (g .owners) (take most (freeOn g profile)) owner) ≡ sumOver (isOf owner) (g .owners) + length
+      (take most (freeOn g profile)) * isOf owner owner =
       put-sum owner (isOf owner) 0 (take most (freeOn g profile)) (g .owners) single (chosen (isOf owner) (rw (ne-eqb 0 owner (λ e. omega arith)))) in
       let e : isOf owner owner ≡ 1 = rw (eq-eqb owner owner refl) in
-      let t : sumOver (isOf owner) (put (g .owners) (take most (freeOn g profile)) owner) ≡ sumOver (isOf owner) (g .owners) + most * 1 = rw (length-take-le most (freeOn g profile) h, e) at s in
+      let t : sumOver (isOf owner) (put (g .owners) (take most (freeOn g profile)) owner) ≡ sumOver (isOf owner) (g .owners) + most * 1 =
+      rw (length-take-le most (freeOn g profile) h, e) at s in
       omega arith
 
   -- any other owner holds as many as before
   pub given-other : (other : ℕ) → 0 < other → (other ≡ owner → ⊥) → ownedSlices other (givenSlices g profile most owner) ≡ ownedSlices other g
   unfolding givenSlices ownedSlices
   given-other other o n =
-      let s : sumOver (isOf other) (put (g .owners) (take most (freeOn g profile)) owner) ≡ sumOver (isOf other) (g .owners) + length (take most (freeOn g profile)) * isOf other owner =
+      let s : sumOver (isOf other) (put (g .owners) (take most (freeOn g profile)) owner) ≡ sumOver (isOf other) (g .owners) + length
+      (take most (freeOn g profile)) * isOf other owner =
       put-sum owner (isOf other) 0 (take most (freeOn g profile)) (g .owners) single (chosen (isOf other) (rw (ne-eqb 0 other (λ e. omega arith)))) in
       let e : isOf other owner ≡ 0 = rw (ne-eqb owner other (λ z. n (sym z))) in
-      let t : sumOver (isOf other) (put (g .owners) (take most (freeOn g profile)) owner) ≡ sumOver (isOf other) (g .owners) + length (take most (freeOn g profile)) * 0 = rw e at s in
+      let t : sumOver (isOf other) (put (g .owners) (take most (freeOn g profile)) owner) ≡ sumOver (isOf other) (g .owners) + length
+      (take most (freeOn g profile)) * 0 = rw e at s in
       omega arith
 
 -- of a new cut the first slices are given, from slice 0 on
-pub new-first : (g : Gpu) (profile slices most owner k : ℕ) → k < most → k < min slices 7 → getD (givenSlices (cutAnew g profile slices) profile most owner .owners) k 0 ≡ owner
+pub new-first : (g : Gpu) (profile slices most owner k : ℕ) → k < most → k < min slices 7 →
+    getD (givenSlices (cutAnew g profile slices) profile most owner .owners) k 0 ≡ owner
 unfolding givenSlices
 new-first g profile slices most owner k h l =
     let f : List ℕ = freeOn (cutAnew g profile slices) profile in

@@ -70,7 +70,8 @@ but-past profile except (suc m) i (g ∷ gpus) h =
     rw (ne-eqb i except (λ e. omega arith), but-past profile except m (i + 1) gpus (omega arith))
 
 -- with an exception in range its slices are missing
-pub but-one : (profile m i k : ℕ) (gpus : List Gpu) → k < m → k < length gpus → freeBut profile (i + k) m i gpus + freeSlices (getD gpus k noGpu) profile ≡ sumOver (λ g. freeSlices g profile) (take m gpus)
+pub but-one : (profile m i k : ℕ) (gpus : List Gpu) → k < m → k < length gpus →
+    freeBut profile (i + k) m i gpus + freeSlices (getD gpus k noGpu) profile ≡ sumOver (λ g. freeSlices g profile) (take m gpus)
 unfolding freeBut sumOver
 but-one profile zero i k gpus h l = absurd (omega arith)
 but-one profile (suc m) i k [] h l = absurd (omega arith)
@@ -92,24 +93,34 @@ module _ (profile owner except : ℕ) where
       ap suc (order-length (left - gives g profile left i except) m (i + 1) gpus)
 
   -- the owner holds as many slices more as are wanted, or as there are
-  pub order-gain : (left m i : ℕ) (gpus : List Gpu) → 0 < owner → All Sized gpus → sumOver (ownedSlices owner) (inOrder profile owner except left m i gpus) ≡ sumOver (ownedSlices owner) gpus + min left (freeBut profile except m i gpus)
+  pub order-gain : (left m i : ℕ) (gpus : List Gpu) → 0 < owner → All Sized gpus →
+      sumOver (ownedSlices owner) (inOrder profile owner except left m i gpus) ≡ sumOver (ownedSlices owner) gpus + min left (freeBut profile except m i gpus)
   unfolding inOrder freeBut sumOver
   order-gain left zero i gpus o s = omega arith
   order-gain left (suc m) i [] o s = omega arith
   order-gain left (suc m) i (g ∷ gpus) o s =
-      omega
-      (arith, gives-min g profile left i except, given-gain g profile (gives g profile left i except) owner (s .0) o (gives-free g profile left i except), order-gain (left - gives g profile left i except) m (i + 1) gpus o (s .1))
+      omega (
+        arith,
+        gives-min g profile left i except,
+        given-gain g profile (gives g profile left i except) owner (s .0) o (gives-free g profile left i except),
+        order-gain (left - gives g profile left i except) m (i + 1) gpus o (s .1),
+      )
 
   -- any other owner holds as many as before
-  pub order-other : (other left m i : ℕ) (gpus : List Gpu) → 0 < other → (other ≡ owner → ⊥) → All Sized gpus → sumOver (ownedSlices other) (inOrder profile owner except left m i gpus) ≡ sumOver (ownedSlices other) gpus
+  pub order-other : (other left m i : ℕ) (gpus : List Gpu) → 0 < other → (other ≡ owner → ⊥) → All Sized gpus →
+      sumOver (ownedSlices other) (inOrder profile owner except left m i gpus) ≡ sumOver (ownedSlices other) gpus
   unfolding inOrder sumOver
   order-other other left zero i gpus o n s = refl
   order-other other left (suc m) i [] o n s = refl
   order-other other left (suc m) i (g ∷ gpus) o n s =
-      rw (given-other g profile (gives g profile left i except) owner (s .0) other o n, order-other other (left - gives g profile left i except) m (i + 1) gpus o n (s .1))
+      rw (
+        given-other g profile (gives g profile left i except) owner (s .0) other o n,
+        order-other other (left - gives g profile left i except) m (i + 1) gpus o n (s .1),
+      )
 
   -- each GPU gave free slices, or nothing
-  pub order-given : (left m i k : ℕ) (gpus : List Gpu) → All Sized gpus → Given profile owner (getD gpus k noGpu) (getD (inOrder profile owner except left m i gpus) k noGpu)
+  pub order-given : (left m i k : ℕ) (gpus : List Gpu) → All Sized gpus →
+      Given profile owner (getD gpus k noGpu) (getD (inOrder profile owner except left m i gpus) k noGpu)
   unfolding inOrder
   order-given left zero i k gpus s = given-same profile owner (getD gpus k noGpu)
   order-given left (suc m) i k [] s = given-same profile owner noGpu

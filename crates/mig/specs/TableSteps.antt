@@ -12,9 +12,10 @@ use Rattle.laws.specs.Search.{those-length, first, first-found, first-next, fir
 use Rattle.laws.specs.Sums.{sumOver, sum-next}
 use Rattle.laws.specs.Tests.{le-or-lt}
 use Rattle.laws.specs.Choice.{pick-either}
+use Rattle.laws.specs.Tables.{take-least}
 use Rattle.model.specs.Gpu.{noGpu}
 use Rattle.model.specs.declared.gpu.Gpu.{Gpu}
-use Rattle.mig.specs.More.{take-least, turn-set, turn-rest, turn-drop}
+use Rattle.mig.specs.More.{turn-set, turn-rest, turn-drop}
 use Rattle.mig.specs.Slices.{sliceCount, freeSlice, freeOn, freeSlices, givenSlices}
 use Rattle.mig.specs.Table.{mayCutAt, firstIdle, freeInAll, gives, inOrder, givenInOrder}
 
@@ -34,12 +35,22 @@ pub gives-count : {k : ℕ} (g : Gpu) (profile left i except : ℕ) → k ≡ gi
 gives-count g profile left i except e = omega (arith, gives-wanted g profile left i except)
 
 -- a turn of giving
-order-turn : (profile owner except left m i : ℕ) (t : List Gpu) (d : Gpu) → i < m → i < length t → take (i + 1) (set t i (givenSlices (getD t i d) profile (gives (getD t i d) profile left i except) owner)) ++ inOrder profile owner except (left - gives (getD t i d) profile left i except) (m - (i + 1)) (i + 1) (drop (i + 1) (set t i (givenSlices (getD t i d) profile (gives (getD t i d) profile left i except) owner))) ≡ take i t ++ inOrder profile owner except left (m - i) i (drop i t)
+order-turn : (profile owner except left m i : ℕ) (t : List Gpu) (d : Gpu) → i < m → i < length t →
+    take (i + 1) (set t i (givenSlices (getD t i d) profile (gives (getD t i d) profile left i except) owner)) ++ inOrder profile owner except
+    (left - gives (getD t i d) profile left i except) (m - (i + 1)) (i + 1)
+    (drop (i + 1) (set t i (givenSlices (getD t i d) profile (gives (getD t i d) profile left i except) owner))) ≡ take i t ++ inOrder profile owner
+    except left (m - i) i (drop i t)
 unfolding inOrder
 order-turn profile owner except left m i t d h k =
     let e : m - i ≡ suc (m - (i + 1)) = omega arith in
     let g : Gpu = givenSlices (getD t i d) profile (gives (getD t i d) profile left i except) owner in
-    rw (turn-rest t i g, turn-set t (inOrder profile owner except (left - gives (getD t i d) profile left i except) (m - (i + 1)) (i + 1) (drop (i + 1) t)) i g k, turn-drop t i d k, e)
+    rw (
+      turn-rest t i g,
+      turn-set t (inOrder profile owner except (left - gives (getD t i d) profile left i except) (m - (i + 1)) (i + 1)
+          (drop (i + 1) t)) i g k,
+      turn-drop t i d k,
+      e,
+    )
 
 -- past the table nothing is given
 order-none : (profile owner except left m i : ℕ) (t : List Gpu) → length t ≡ 0 → inOrder profile owner except left m i t ≡ t
@@ -53,16 +64,24 @@ order-past profile owner except left m i t h =
     rw (order-none profile owner except left m i (drop i t) (omega (arith, length-drop i t)), take-append-drop)
 
 -- a turn of giving, in the table or past it
-order-step : (profile owner except left m i : ℕ) (t : List Gpu) → i < m → take (i + 1) (set t i (givenSlices (getD t i noGpu) profile (gives (getD t i noGpu) profile left i except) owner)) ++ inOrder profile owner except (left - gives (getD t i noGpu) profile left i except) (m - (i + 1)) (i + 1) (drop (i + 1) (set t i (givenSlices (getD t i noGpu) profile (gives (getD t i noGpu) profile left i except) owner))) ≡ take i t ++ inOrder profile owner except left (m - i) i (drop i t)
+order-step : (profile owner except left m i : ℕ) (t : List Gpu) → i < m →
+    take (i + 1) (set t i (givenSlices (getD t i noGpu) profile (gives (getD t i noGpu) profile left i except) owner)) ++ inOrder profile owner
+    except (left - gives (getD t i noGpu) profile left i except) (m - (i + 1)) (i + 1)
+    (drop (i + 1) (set t i (givenSlices (getD t i noGpu) profile (gives (getD t i noGpu) profile left i except) owner))) ≡ take i t ++ inOrder
+    profile owner except left (m - i) i (drop i t)
 order-step profile owner except left m i t h =
     let g : Gpu = givenSlices (getD t i noGpu) profile (gives (getD t i noGpu) profile left i except) owner in
     ⊎-elim
-    (λ k. rw (set-out t i g k) (order-past profile owner except (left - gives (getD t i noGpu) profile left i except) (m - (i + 1)) (i + 1) t (omega arith) ∙ sym (order-past profile owner except left (m - i) i t k)))
+    (λ k. rw (set-out t i g k) (order-past profile owner except (left - gives (getD t i noGpu) profile left i except) (m - (i + 1)) (i + 1) t
+    (omega arith) ∙ sym (order-past profile owner except left (m - i) i t k)))
     (λ k. order-turn profile owner except left m i t noGpu h k)
     (le-or-lt (length t) i)
 
 -- the same step by step
-pub order-again : (profile owner except left m i k : ℕ) (t u all : List Gpu) (g h : Gpu) → i < m → g ≡ getD t i noGpu → k ≡ gives g profile left i except → h ≡ givenSlices g profile k owner → u ≡ set t i h → take i t ++ inOrder profile owner except left (m - i) i (drop i t) ≡ all → take (i + 1) u ++ inOrder profile owner except (left - k) (m - (i + 1)) (i + 1) (drop (i + 1) u) ≡ all
+pub order-again : (profile owner except left m i k : ℕ) (t u all : List Gpu) (g h : Gpu) → i < m → g ≡ getD t i noGpu →
+    k ≡ gives g profile left i except → h ≡ givenSlices g profile k owner → u ≡ set t i h →
+    take i t ++ inOrder profile owner except left (m - i) i (drop i t) ≡ all →
+    take (i + 1) u ++ inOrder profile owner except (left - k) (m - (i + 1)) (i + 1) (drop (i + 1) u) ≡ all
 order-again profile owner except left m i k t u all g h l read count given put e =
     rw (put, given, count, read) (order-step profile owner except left m i t l ∙ e)
 
@@ -85,7 +104,8 @@ module _ (gpus : List Gpu) (n m : ℕ) where
   idle-found i h t e = sym (first-found (mayCutAt gpus) m i h t) ∙ e
 
   -- it may not
-  pub idle-next : (i : ℕ) → i < m → mayCutAt gpus i ≡ false → first (mayCutAt gpus) (m - i) i ≡ firstIdle gpus n → first (mayCutAt gpus) (m - (i + 1)) (i + 1) ≡ firstIdle gpus n
+  pub idle-next : (i : ℕ) → i < m → mayCutAt gpus i ≡ false → first (mayCutAt gpus) (m - i) i ≡ firstIdle gpus n →
+      first (mayCutAt gpus) (m - (i + 1)) (i + 1) ≡ firstIdle gpus n
   idle-next i h t e = sym (first-next (mayCutAt gpus) m i h t) ∙ e
 
   -- none may
@@ -94,7 +114,8 @@ module _ (gpus : List Gpu) (n m : ℕ) where
 
 -- ---- giving starts with all
 
-pub order-start : (gpus : List Gpu) (n m profile want owner except : ℕ) → m ≡ min n 128 → inOrder profile owner except want (m - 0) 0 gpus ≡ givenInOrder gpus n profile want owner except
+pub order-start : (gpus : List Gpu) (n m profile want owner except : ℕ) → m ≡ min n 128 →
+    inOrder profile owner except want (m - 0) 0 gpus ≡ givenInOrder gpus n profile want owner except
 unfolding givenInOrder
 order-start gpus n m profile want owner except e = let s : m - 0 ≡ min n 128 = omega arith in rw s
 
@@ -105,10 +126,12 @@ pub free-count : {r : ℕ} (g : Gpu) (profile : ℕ) → r ≡ freeSlices g prof
 free-count g profile e = omega (arith, free-most g profile)
 
 -- a turn adds those of the GPU at hand
-pub free-turn : (gpus : List Gpu) (profile i sum r : ℕ) (d : Gpu) → i < length gpus → sum ≡ sumOver (λ g. freeSlices g profile) (take i gpus) → r ≡ freeSlices (getD gpus i d) profile → sum + r ≡ sumOver (λ g. freeSlices g profile) (take (i + 1) gpus)
+pub free-turn : (gpus : List Gpu) (profile i sum r : ℕ) (d : Gpu) → i < length gpus → sum ≡ sumOver (λ g. freeSlices g profile) (take i gpus) →
+    r ≡ freeSlices (getD gpus i d) profile → sum + r ≡ sumOver (λ g. freeSlices g profile) (take (i + 1) gpus)
 free-turn gpus profile i sum r d h e f = omega (arith, sum-next (λ g. freeSlices g profile) gpus i d h)
 
 -- past the last GPU all are added
-pub free-end : (gpus : List Gpu) (n profile m i : ℕ) → m ≡ min n 128 → length gpus ≡ 128 → i ≡ m → sumOver (λ g. freeSlices g profile) (take i gpus) ≡ freeInAll gpus n profile
+pub free-end : (gpus : List Gpu) (n profile m i : ℕ) → m ≡ min n 128 → length gpus ≡ 128 → i ≡ m →
+    sumOver (λ g. freeSlices g profile) (take i gpus) ≡ freeInAll gpus n profile
 unfolding freeInAll
-free-end gpus n profile m i e l h = rw (h, e, take-least n 128 gpus l)
+free-end gpus n profile m i e l h = rw (h, e, take-least n 128 gpus (omega arith))

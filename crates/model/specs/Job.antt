@@ -7,7 +7,23 @@ use Rattle.model.specs.declared.job.Job.{Job}
 
 -- A job that asks for nothing.
 abbrev pub noAsk : Ask
-noAsk = record { arrival = zero·0; duration = zero·0; priority = 0; count = 0; memory = zero·0; kind = 0; site = 0; tenant = 0; gang = false; nodes = 0; network = false; timeout = zero·0; profile = 0; slices = 0 }
+noAsk = record {
+  arrival = zero·0;
+  duration = zero·0;
+  priority = 0;
+  count = 0;
+  memory = zero·0;
+  kind = 0;
+  site = 0;
+  tenant = 0;
+  gang = false;
+  nodes =
+      0;
+  network = false;
+  timeout = zero·0;
+  profile = 0;
+  slices = 0;
+}
 
 -- A job as loaded: it has not arrived yet, and its whole duration remains.
 unfoldable pub newJob : Ask → Job

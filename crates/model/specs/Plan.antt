@@ -11,4 +11,15 @@ use Rattle.model.specs.declared.plan.Plan.{Plan}
 
 -- The plan that holds no record: every table empty, clock 0.0.
 unfoldable pub emptyPlan : Plan
-emptyPlan = record { setting = emptySetting; gpus = replicate Sizes.gpus noGpu; jobs = replicate Sizes.jobs noJob; queue = replicate Sizes.jobs 0; waiting = 0; events = replicate Sizes.events emptyEvent; next = 0; clock = zero·0; totals = noTotals }
+emptyPlan = record {
+  setting = emptySetting;
+  gpus = replicate Sizes.gpus noGpu;
+  jobs = replicate Sizes.jobs noJob;
+  queue =
+      replicate Sizes.jobs 0;
+  waiting = 0;
+  events = replicate Sizes.events emptyEvent;
+  next = 0;
+  clock = zero·0;
+  totals = noTotals;
+}

@@ -17,4 +17,13 @@ defaultOptions = record { seconds = thirty; penalty = zeroÂ·0; multiplier = oneÂ
 
 -- No node, no GPU, no job, no quota, no profile.
 abbrev pub emptySetting : Setting
-emptySetting = record { sites = replicate Sizes.nodes 0; nodes = 0; gpus = 0; jobs = 0; quotas = replicate Sizes.tenants 0; mosts = replicate Sizes.profiles 0; options = defaultOptions }
+emptySetting = record {
+  sites = replicate Sizes.nodes 0;
+  nodes = 0;
+  gpus = 0;
+  jobs = 0;
+  quotas = replicate Sizes.tenants 0;
+  mosts =
+      replicate Sizes.profiles 0;
+  options = defaultOptions;
+}

@@ -55,7 +55,8 @@ module _ {M : Type 1} (𝓤 : URA M) (H : Heap 𝓤) (A : Atoms 𝓤) (W : Given
   pub lies-in : ent 𝓤 (sep 𝓤 (sem 𝓤 H A (fat fullShare T′.mir l 0 (mach h))) (sem 𝓤 H A (row .own h (mach h ∷ [])))) (sem 𝓤 H A (mem row .lies h l 0))
   unfolding partOf
   lies-in =
-      qed W (‵ (fat fullShare T′.mir l 0 (mach h)) ∷ ‵ (row .own h (mach h ∷ [])) ∷ []) ∵ use1 W (‵ (cellAt fullShare (row .mir) (mach h ∷ []) l 0)) (W .laws .at-raw fullShare T′.mir l 0 (mach h)) $
+      qed W (‵ (fat fullShare T′.mir l 0 (mach h)) ∷ ‵ (row .own h (mach h ∷ [])) ∷ []) ∵ use1 W (‵ (cellAt fullShare (row .mir) (mach h ∷ []) l 0))
+      (W .laws .at-raw fullShare T′.mir l 0 (mach h)) $
       fjoin ! $ fpack ! (List Val) (λ us. fsep (cellAt fullShare (row .mir) us l 0) (row .own h us)) (mach h ∷ []) $ done !
 
   pub lies-out : ent 𝓤 (sem 𝓤 H A (mem row .lies h l 0)) (sep 𝓤 (sem 𝓤 H A (fat fullShare T′.mir l 0 (mach h))) (sem 𝓤 H A (row .own h (mach h ∷ []))))
@@ -89,5 +90,6 @@ module _ {M : Type 1} (𝓤 : URA M) (H : Heap 𝓤) (A : Atoms 𝓤) (W : Given
 
   pub plain-owned : (s : Start) → Fit s → ent 𝓤 (emp 𝓤) (sem 𝓤 H A (owns (bool ∷ bool ∷ f64 ∷ f64 ∷ []) s (cells s)))
   plain-owned s fit =
-      qed W [] ∵ nothing ! $ owned ! f64 (Is f64) (float-makes 𝓤 H A W binary64) (s .1 .1 .1 .0) _ (refl, fit .1) $ fjoin ! $ owned ! f64 (Is f64) (float-makes 𝓤 H A W binary64) (s .1 .1 .0) _ (refl, fit .0) $ fjoin ! $
+      qed W [] ∵ nothing ! $ owned ! f64 (Is f64) (float-makes 𝓤 H A W binary64) (s .1 .1 .1 .0) _ (refl, fit .1) $ fjoin ! $ owned ! f64 (Is f64)
+      (float-makes 𝓤 H A W binary64) (s .1 .1 .0) _ (refl, fit .0) $ fjoin ! $
       owned ! bool (Is bool) (bool-makes 𝓤 H A W) (s .1 .0) _ refl $ fjoin ! $ owned ! bool (Is bool) (bool-makes 𝓤 H A W) (s .0) _ refl $ fjoin ! $ done !

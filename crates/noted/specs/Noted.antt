@@ -28,4 +28,12 @@ evicted t queue = record { evictions = more (t .evictions) true; cuts = t .cuts;
 
 -- A start counts its cut as a reconfiguration, its penalty, and the runtime that the penalty adds.
 unfoldable pub started : Totals → Bool → Bool → Float → Float → Totals
-started t cut penalised remaining multiplier = record { evictions = t .evictions; cuts = more (t .cuts) cut; penalised = more (t .penalised) penalised; longest = t .longest; added = grown (t .added) penalised remaining multiplier }
+started t cut penalised remaining multiplier =
+    record {
+      evictions = t .evictions;
+      cuts = more (t .cuts) cut;
+      penalised = more (t .penalised) penalised;
+      longest = t .longest;
+      added =
+          grown (t .added) penalised remaining multiplier;
+    }

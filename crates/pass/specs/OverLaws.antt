@@ -54,7 +54,8 @@ module _ (aware : Bool) (ask : Ask) where
       (charge-none (ask .tenant) (evicted j clock) (evicted-holds clock j))
 
   -- a write that costs the same
-  used-set : (n : ℕ) (jobs : List Job) (v : ℕ) (new : Job) → keptCharge aware ask new ≡ keptCharge aware ask (getD jobs v noJob) → usedAtLeast aware n (set jobs v new) ask ≡ usedAtLeast aware n jobs ask
+  used-set : (n : ℕ) (jobs : List Job) (v : ℕ) (new : Job) → keptCharge aware ask new ≡ keptCharge aware ask (getD jobs v noJob) →
+      usedAtLeast aware n (set jobs v new) ask ≡ usedAtLeast aware n jobs ask
   unfolding usedAtLeast
   used-set n jobs v new e =
       ⊎-elim
@@ -64,7 +65,8 @@ module _ (aware : Bool) (ask : Ask) where
       (le-or-lt n v)
 
   -- when candidates leave the tenant would use as much
-  used-evicted : (clock : Float) (n : ℕ) (jobs : List Job) (vs : List ℕ) → All (λ v. keptCharge aware ask (getD jobs v noJob) ≡ 0) vs → usedAtLeast aware n (evictedAll clock jobs vs) ask ≡ usedAtLeast aware n jobs ask
+  used-evicted : (clock : Float) (n : ℕ) (jobs : List Job) (vs : List ℕ) → All (λ v. keptCharge aware ask (getD jobs v noJob) ≡ 0) vs →
+      usedAtLeast aware n (evictedAll clock jobs vs) ask ≡ usedAtLeast aware n jobs ask
   unfolding evictedAll
   used-evicted clock n jobs [] h = refl
   used-evicted clock n jobs (v ∷ vs) h =
@@ -76,7 +78,8 @@ module _ (aware : Bool) (ask : Ask) where
       n
       (set jobs v new)
       vs
-      (all-weaken (λ w. keptCharge aware ask (getD jobs w noJob) ≡ 0) (λ w. keptCharge aware ask (getD (set jobs v new) w noJob) ≡ 0) vs (λ w z. set-kept jobs v new noJob (keptCharge aware ask) e w ∙ z) (h .1)) ∙ used-set n jobs v new e
+      (all-weaken (λ w. keptCharge aware ask (getD jobs w noJob) ≡ 0) (λ w. keptCharge aware ask (getD (set jobs v new) w noJob) ≡ 0) vs
+      (λ w z. set-kept jobs v new noJob (keptCharge aware ask) e w ∙ z) (h .1)) ∙ used-set n jobs v new e
 
   -- and does use at least as much
   used-usage : (n : ℕ) (jobs : List Job) → usedAtLeast aware n jobs ask ≤ usage jobs n (ask .tenant)
@@ -97,12 +100,15 @@ module _ (s : Setting) (jobs : List Job) (j : Job) (over : isOver s jobs (j .ask
       (λ b. never-both (rw (a, b) at over) refl)
       (λ b. let kept : ℕ = keptQuota s (j .ask .tenant) in
       let some : kept ≡ 0 → ⊥ = eqb-false kept 0 b in
-      let o : kept ≤ usedAtLeast (s .options .aware) (s .jobs) jobs (j .ask) + j .ask .count = leb-true kept (usedAtLeast (s .options .aware) (s .jobs) jobs (j .ask) + j .ask .count) (rw (a, b) at over) in
-      let u : usage left (s .jobs) (j .ask .tenant) + j .ask .count ≤ kept - 1 = leb-true (usage left (s .jobs) (j .ask .tenant) + j .ask .count) (kept - 1) (rw (a, b) at w) in
+      let o : kept ≤ usedAtLeast (s .options .aware) (s .jobs) jobs (j .ask) + j .ask .count =
+      leb-true kept (usedAtLeast (s .options .aware) (s .jobs) jobs (j .ask) + j .ask .count) (rw (a, b) at over) in
+      let u : usage left (s .jobs) (j .ask .tenant) + j .ask .count ≤ kept - 1 =
+      leb-true (usage left (s .jobs) (j .ask .tenant) + j .ask .count) (kept - 1) (rw (a, b) at w) in
       omega (arith, some, o, u, h)))
 
   -- so it is not placeable when candidates have left
-  pub over-unplaceable : (clock : Float) (free : List Gpu) (vs : List ℕ) → All (λ v. (v < 128) × (candidateAt (s .options .aware) jobs (j .ask) v ≡ true)) vs → placeable s free (evictedAll clock jobs vs) j ≡ false
+  pub over-unplaceable : (clock : Float) (free : List Gpu) (vs : List ℕ) →
+      All (λ v. (v < 128) × (candidateAt (s .options .aware) jobs (j .ask) v ≡ true)) vs → placeable s free (evictedAll clock jobs vs) j ≡ false
   over-unplaceable clock free vs h =
       let left : List Job = evictedAll clock jobs vs in
       let z : All (λ v. keptCharge (s .options .aware) (j .ask) (getD jobs v noJob) ≡ 0) vs =
@@ -114,4 +120,8 @@ module _ (s : Setting) (jobs : List Job) (j : Job) (over : isOver s jobs (j .ask
       h in
       fails
       (placeable s free left j)
-      (λ t. over-quota left (omega (arith, used-evicted (s .options .aware) (j .ask) clock (s .jobs) jobs vs z, used-usage (s .options .aware) (j .ask) (s .jobs) left)) (placeable-quota s free left j t))
+      (λ t. over-quota left (omega (
+        arith,
+        used-evicted (s .options .aware) (j .ask) clock (s .jobs) jobs vs z,
+        used-usage (s .options .aware) (j .ask) (s .jobs) left,
+      )) (placeable-quota s free left j t))

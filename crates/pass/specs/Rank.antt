@@ -72,12 +72,14 @@ module _ (ranks : List ℕ) (priority i : ℕ) where
 
   -- ---- the turns of the loop that counts
 
-  pub low-take : (k : ℕ) → i < length ranks → getD ranks i 0 ≤ priority → k ≡ length (those (lowAt ranks priority) i 0) → k + 1 ≡ length (those (lowAt ranks priority) (i + 1) 0)
+  pub low-take : (k : ℕ) → i < length ranks → getD ranks i 0 ≤ priority → k ≡ length (those (lowAt ranks priority) i 0) →
+      k + 1 ≡ length (those (lowAt ranks priority) (i + 1) 0)
   low-take k h l e =
       let t : lowAt ranks priority i ≡ true = rw (lt-ltb i (length ranks) h, le-leb (getD ranks i 0) priority l) in
       rw (those-next-take (lowAt ranks priority) i t) (omega (arith, e, length-append (those (lowAt ranks priority) i 0) (i ∷ [])))
 
-  pub low-skip : (k : ℕ) → i < length ranks → priority < getD ranks i 0 → k ≡ length (those (lowAt ranks priority) i 0) → k ≡ length (those (lowAt ranks priority) (i + 1) 0)
+  pub low-skip : (k : ℕ) → i < length ranks → priority < getD ranks i 0 → k ≡ length (those (lowAt ranks priority) i 0) →
+      k ≡ length (those (lowAt ranks priority) (i + 1) 0)
   low-skip k h l e =
       let t : lowAt ranks priority i ≡ false = rw (lt-ltb i (length ranks) h, lt-leb (getD ranks i 0) priority l) in
       rw (those-next-skip (lowAt ranks priority) i t) e

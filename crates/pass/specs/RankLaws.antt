@@ -43,7 +43,8 @@ module _ (gpus : List Gpu) (jobs : List Job) (n : ℕ) where
   ranks-at : (i : ℕ) → i < min n 128 → getD (ranksOf gpus jobs n) i 0 ≡ rankOf jobs (getD gpus i noGpu .owner)
   unfolding ranksOf rankOf
   ranks-at i h =
-      pad-getD 128 0 (map (gpuRank jobs) (take (min n 128) gpus)) i ranks-fit ∙ List·getD-map (gpuRank jobs) (take (min n 128) gpus) i noGpu ∙ ap (gpuRank jobs) (getD-take (min n 128) gpus i noGpu h)
+      pad-getD 128 0 (map (gpuRank jobs) (take (min n 128) gpus)) i ranks-fit ∙ List·getD-map (gpuRank jobs) (take (min n 128) gpus) i noGpu
+      ∙ ap (gpuRank jobs) (getD-take (min n 128) gpus i noGpu h)
 
 -- ---- what is within reach is low
 
@@ -54,7 +55,8 @@ candidate-low aware ask v h =
     let r : ((running v && ltb (v .ask .priority) (ask .priority)) ≡ true) × ((ltb (v .evictions) 3 && openTo aware (ask .tenant) (v .ask .tenant)) ≡ true) =
     and-both (running v && ltb (v .ask .priority) (ask .priority)) (ltb (v .evictions) 3 && openTo aware (ask .tenant) (v .ask .tenant)) h in
     let a : (running v ≡ true) × (ltb (v .ask .priority) (ask .priority) ≡ true) = and-both (running v) (ltb (v .ask .priority) (ask .priority)) (r .0) in
-    let b : (ltb (v .evictions) 3 ≡ true) × (openTo aware (ask .tenant) (v .ask .tenant) ≡ true) = and-both (ltb (v .evictions) 3) (openTo aware (ask .tenant) (v .ask .tenant)) (r .1) in
+    let b : (ltb (v .evictions) 3 ≡ true) × (openTo aware (ask .tenant) (v .ask .tenant) ≡ true) =
+    and-both (ltb (v .evictions) 3) (openTo aware (ask .tenant) (v .ask .tenant)) (r .1) in
     rw (a .0, b .0) (omega (arith, ltb-true (v .ask .priority) (ask .priority) (a .1)))
 
 free-low : (aware : Bool) (jobs : List Job) (ask : Ask) (owner : ℕ) → mayBeFree aware jobs ask owner ≡ true → rankOf jobs owner ≤ ask .priority
@@ -92,10 +94,12 @@ module _ (aware : Bool) (gpus : List Gpu) (n : ℕ) (sites : List ℕ) (jobs : L
       rw l (those-more (reachableAt aware sites jobs ask gpus) (lowAt ranks (ask .priority)) (min n 128) 0 (λ k a b t. reach-low k (omega arith) t))
 
 -- so with fewer low ranks than the job asks for there are too few within reach
-pub low-short : (s : Setting) (gpus : List Gpu) (jobs : List Job) (ask : Ask) (ranks : List ℕ) (k : ℕ) → ranks ≡ ranksOf gpus jobs (s .gpus) → k ≡ lowRanks ranks (s .gpus) (ask .priority) → k < ask .count → true ≡ isShort s gpus jobs ask
+pub low-short : (s : Setting) (gpus : List Gpu) (jobs : List Job) (ask : Ask) (ranks : List ℕ) (k : ℕ) → ranks ≡ ranksOf gpus jobs (s .gpus) →
+    k ≡ lowRanks ranks (s .gpus) (ask .priority) → k < ask .count → true ≡ isShort s gpus jobs ask
 unfolding isShort
 low-short s gpus jobs ask ranks k is e h =
     let l : List ℕ = reachables (s .options .aware) gpus (s .gpus) (s .sites) jobs ask in
     let f : isEnough (whyNot (nodeKeys gpus) l ask) ≡ false =
-    fails (isEnough (whyNot (nodeKeys gpus) l ask)) (λ t. omega (arith, e, h, room-needs (nodeKeys gpus) l ask t, reach-most (s .options .aware) gpus (s .gpus) (s .sites) jobs ask ranks is)) in
+    fails (isEnough (whyNot (nodeKeys gpus) l ask))
+    (λ t. omega (arith, e, h, room-needs (nodeKeys gpus) l ask t, reach-most (s .options .aware) gpus (s .gpus) (s .sites) jobs ask ranks is)) in
     rw f

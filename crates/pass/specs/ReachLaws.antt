@@ -59,7 +59,8 @@ module _ (aware : Bool) (sites : List ℕ) (jobs : List Job) (ask : Ask) where
   freed-alike owner site g = refl
 
   -- what is within reach when a candidate has left was so before
-  freed-reachable : (v : ℕ) (g : Gpu) → v < 65535 → candidateAt aware jobs ask v ≡ true → reachable aware sites jobs ask (freed (plusOne v) g) ≡ true → reachable aware sites jobs ask g ≡ true
+  freed-reachable : (v : ℕ) (g : Gpu) → v < 65535 → candidateAt aware jobs ask v ≡ true →
+      reachable aware sites jobs ask (freed (plusOne v) g) ≡ true → reachable aware sites jobs ask g ≡ true
   unfolding reachable freed
   freed-reachable v g b t h =
       let r : (eligible ask (siteOf sites g) (withOwner 0 (freed (plusOne v) g)) ≡ true) × (mayBeFree aware jobs ask (withoutOwner (plusOne v) (g .owner)) ≡ true) =
@@ -75,21 +76,24 @@ module _ (aware : Bool) (sites : List ℕ) (jobs : List Job) (ask : Ask) where
       sym (free-then aware jobs ask (g .owner) true (λ z. omega arith) (rw d (sym t))))
       (λ e. rw e at (r .1)))
 
-  reach-step : (v : ℕ) (gpus : List Gpu) (i : ℕ) → v < 65535 → candidateAt aware jobs ask v ≡ true → reachableAt aware sites jobs ask (map (freed (plusOne v)) gpus) i ≡ true → reachableAt aware sites jobs ask gpus i ≡ true
+  reach-step : (v : ℕ) (gpus : List Gpu) (i : ℕ) → v < 65535 → candidateAt aware jobs ask v ≡ true →
+      reachableAt aware sites jobs ask (map (freed (plusOne v)) gpus) i ≡ true → reachableAt aware sites jobs ask gpus i ≡ true
   reach-step v gpus i b t h =
       let e : getD (map (freed (plusOne v)) gpus) i noGpu ≡ freed (plusOne v) (getD gpus i noGpu) =
       ap (λ (d : Gpu). getD (map (freed (plusOne v)) gpus) i d) (sym (freed-none (plusOne v))) ∙ List·getD-map (freed (plusOne v)) gpus i noGpu in
       freed-reachable v (getD gpus i noGpu) b t (rw e at h)
 
   -- when candidates leave no more come within reach
-  reach-freed : (gpus : List Gpu) (vs : List ℕ) (i : ℕ) → All (λ v. (v < 128) × (candidateAt aware jobs ask v ≡ true)) vs → reachableAt aware sites jobs ask (freedAll gpus vs) i ≡ true → reachableAt aware sites jobs ask gpus i ≡ true
+  reach-freed : (gpus : List Gpu) (vs : List ℕ) (i : ℕ) → All (λ v. (v < 128) × (candidateAt aware jobs ask v ≡ true)) vs →
+      reachableAt aware sites jobs ask (freedAll gpus vs) i ≡ true → reachableAt aware sites jobs ask gpus i ≡ true
   unfolding freedAll
   reach-freed gpus [] i h t = t
   reach-freed gpus (v ∷ vs) i h t =
       reach-step v gpus i (omega (arith, h .0 .0)) (h .0 .1) (reach-freed (map (freed (plusOne v)) gpus) vs i (h .1) t)
 
   -- the GPUs that are eligible then are within reach now
-  reach-eligible : (gpus : List Gpu) (vs : List ℕ) (i : ℕ) → All (λ v. (v < 128) × (candidateAt aware jobs ask v ≡ true)) vs → mayTake (freedAll gpus vs) sites ask i ≡ true → reachableAt aware sites jobs ask gpus i ≡ true
+  reach-eligible : (gpus : List Gpu) (vs : List ℕ) (i : ℕ) → All (λ v. (v < 128) × (candidateAt aware jobs ask v ≡ true)) vs →
+      mayTake (freedAll gpus vs) sites ask i ≡ true → reachableAt aware sites jobs ask gpus i ≡ true
   reach-eligible gpus vs i h t = reach-freed gpus vs i h (eligible-reachable (getD (freedAll gpus vs) i noGpu) t)
 
 -- and they stand on the same nodes
@@ -155,7 +159,8 @@ module _ (nodes : List ℕ) (p q : ℕ → Bool) (m : ℕ) (more : (k : ℕ) →
   unfolding countOf withKey
   count-more node =
       rw (only-those (keyed nodes node) p m 0, only-those (keyed nodes node) q m 0)
-      (those-more (λ k. p k && keyed nodes node k) (λ k. q k && keyed nodes node k) m 0 (λ k a b t. let r : (p k ≡ true) × (keyed nodes node k ≡ true) = and-both (p k) (keyed nodes node k) t in
+      (those-more (λ k. p k && keyed nodes node k) (λ k. q k && keyed nodes node k) m 0
+      (λ k a b t. let r : (p k ≡ true) × (keyed nodes node k ≡ true) = and-both (p k) (keyed nodes node k) t in
       both-and (q k) (keyed nodes node k) (more k (r .0)) (r .1)))
 
   -- on as many nodes
@@ -182,12 +187,19 @@ module _ (nodes : List ℕ) (p q : ℕ → Bool) (m : ℕ) (more : (k : ℕ) →
       split
       (isGang ask)
       (λ g. rw (ne-eqb (ask .count) 0 z, g) (gang-more (ask .count) (ask .nodes) (room-gang nodes (those p m 0) ask g h)))
-      (λ g. rw (ne-eqb (ask .count) 0 z, g, le-leb (ask .count) (length (those q m 0)) (omega (arith, room-others nodes (those p m 0) ask g h, those-more p q m 0 (λ k a b t. more k t)))))
+      (λ g. rw (
+        ne-eqb (ask .count) 0 z,
+        g,
+        le-leb (ask .count) (length (those q m 0))
+            (omega (arith, room-others nodes (those p m 0) ask g h, those-more p q m 0 (λ k a b t. more k t))),
+      ))
 
 -- ---- so it is not placeable
 
 -- room when candidates have left is room among those within reach
-room-freed : (aware : Bool) (sites : List ℕ) (jobs : List Job) (ask : Ask) (gpus : List Gpu) (n : ℕ) (vs : List ℕ) → All (λ v. (v < 128) × (candidateAt aware jobs ask v ≡ true)) vs → isEnough (whyNotHere (freedAll gpus vs) n sites ask) ≡ true → isEnough (whyNot (nodeKeys gpus) (reachables aware gpus n sites jobs ask) ask) ≡ true
+room-freed : (aware : Bool) (sites : List ℕ) (jobs : List Job) (ask : Ask) (gpus : List Gpu) (n : ℕ) (vs : List ℕ) →
+    All (λ v. (v < 128) × (candidateAt aware jobs ask v ≡ true)) vs → isEnough (whyNotHere (freedAll gpus vs) n sites ask) ≡ true →
+    isEnough (whyNot (nodeKeys gpus) (reachables aware gpus n sites jobs ask) ask) ≡ true
 unfolding whyNotHere eligibles reachables
 room-freed aware sites jobs ask gpus n vs h t =
     room-more
@@ -200,9 +212,12 @@ room-freed aware sites jobs ask gpus n vs h t =
     (rw (nodes-kept gpus vs) at t)
 
 -- with too few within reach, when candidates have left
-pub short-unplaceable : (s : Setting) (jobs : List Job) (j : Job) → eqb (j .ask .profile) 0 ≡ true → (gpus : List Gpu) (left : List Job) (vs : List ℕ) → isShort s gpus jobs (j .ask) ≡ true → All (λ v. (v < 128) × (candidateAt (s .options .aware) jobs (j .ask) v ≡ true)) vs → placeable s (freedAll gpus vs) left j ≡ false
+pub short-unplaceable : (s : Setting) (jobs : List Job) (j : Job) → eqb (j .ask .profile) 0 ≡ true →
+    (gpus : List Gpu) (left : List Job) (vs : List ℕ) → isShort s gpus jobs (j .ask) ≡ true →
+    All (λ v. (v < 128) × (candidateAt (s .options .aware) jobs (j .ask) v ≡ true)) vs → placeable s (freedAll gpus vs) left j ≡ false
 unfolding isShort
 short-unplaceable s jobs j whole gpus left vs short h =
     fails
     (placeable s (freedAll gpus vs) left j)
-    (λ t. never-both (rw (room-freed (s .options .aware) (s .sites) jobs (j .ask) gpus (s .gpus) vs h (placeable-enough s (freedAll gpus vs) left j whole t)) at short) refl)
+    (λ t. never-both (rw (room-freed (s .options .aware) (s .sites) jobs (j .ask) gpus (s .gpus) vs h
+    (placeable-enough s (freedAll gpus vs) left j whole t)) at short) refl)

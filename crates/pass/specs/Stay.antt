@@ -11,6 +11,7 @@ use Rattle.laws.specs.Choice.{pick}
 use Rattle.laws.specs.Tests.{split}
 use Rattle.laws.specs.Search.{those}
 use Rattle.laws.specs.Sums.{sumOver, sum-next}
+use Rattle.laws.specs.Tables.{take-least}
 use Rattle.model.specs.Sizes as Sizes
 use Rattle.model.specs.Gpu.{noGpu}
 use Rattle.model.specs.Job.{noJob}
@@ -20,7 +21,6 @@ use Rattle.model.specs.declared.job.Job.{Job}
 use Rattle.model.specs.declared.setting.Setting.{Setting}
 use Rattle.cluster.specs.Gpus.{withOwner}
 use Rattle.cluster.specs.Usage.{chargeTo}
-use Rattle.mig.specs.More.{take-least}
 use Rattle.eligible.specs.Rule.{eligible}
 use Rattle.eligible.specs.Keys.{nodeKeys}
 use Rattle.eligible.specs.Eligible.{siteOf}
@@ -114,7 +114,12 @@ module _ (s : Setting) (jobs : List Job) (ask : Ask) where
     module _ (entry : keptQuota s (ask .tenant) ≡ 0 → ⊥) (used : ℕ) (is : used ≡ usedAtLeast (s .options .aware) (s .jobs) jobs ask) where
       pub over-spent : keptQuota s (ask .tenant) ≤ used → true ≡ isOver s jobs ask
       unfolding isOver
-      over-spent l = rw (ne-eqb (ask .tenant) 0 some, ne-eqb (keptQuota s (ask .tenant)) 0 entry, ← is, le-leb (keptQuota s (ask .tenant)) (used + ask .count) (omega arith))
+      over-spent l = rw (
+        ne-eqb (ask .tenant) 0 some,
+        ne-eqb (keptQuota s (ask .tenant)) 0 entry,
+        ← is,
+        le-leb (keptQuota s (ask .tenant)) (used + ask .count) (omega arith),
+      )
 
       pub over-left : used < keptQuota s (ask .tenant) → leb (keptQuota s (ask .tenant) - used) (ask .count) ≡ isOver s jobs ask
       unfolding isOver
@@ -128,7 +133,8 @@ module _ (s : Setting) (jobs : List Job) (ask : Ask) where
 
 module _ (s : Setting) (gpus : List Gpu) (jobs : List Job) (ask : Ask) where
   -- the keys may be any that give the same cause
-  pub short-looked : (why : Why) (keys l : List ℕ) → why ≡ whyNot keys l ask → whyNot keys l ask ≡ whyNot (nodeKeys gpus) l ask → l ≡ reachables (s .options .aware) gpus (s .gpus) (s .sites) jobs ask → not (isEnough why) ≡ isShort s gpus jobs ask
+  pub short-looked : (why : Why) (keys l : List ℕ) → why ≡ whyNot keys l ask → whyNot keys l ask ≡ whyNot (nodeKeys gpus) l ask →
+      l ≡ reachables (s .options .aware) gpus (s .gpus) (s .sites) jobs ask → not (isEnough why) ≡ isShort s gpus jobs ask
   unfolding isShort
   short-looked why keys l e f g = rw (e, f, g)
 
@@ -156,16 +162,19 @@ module _ (s : Setting) (gpus : List Gpu) (jobs : List Job) (id : ℕ) (j : Job) 
 -- ---- the turns of the loops
 
 -- the test of the code is that of the definition
-pub reach-read : (aware : Bool) (sites : List ℕ) (jobs : List Job) (ask : Ask) (gpus : List Gpu) (i : ℕ) (g : Gpu) (r : Bool) → g ≡ getD gpus i noGpu → r ≡ reachable aware sites jobs ask g → reachableAt aware sites jobs ask gpus i ≡ r
+pub reach-read : (aware : Bool) (sites : List ℕ) (jobs : List Job) (ask : Ask) (gpus : List Gpu) (i : ℕ) (g : Gpu) (r : Bool) →
+    g ≡ getD gpus i noGpu → r ≡ reachable aware sites jobs ask g → reachableAt aware sites jobs ask gpus i ≡ r
 reach-read aware sites jobs ask gpus i g r e f = sym (f ∙ rw e)
 
 -- a turn adds what the job at hand costs
-pub used-turn : (aware : Bool) (jobs : List Job) (ask : Ask) (i sum r : ℕ) (j : Job) → i < length jobs → sum ≡ sumOver (keptCharge aware ask) (take i jobs) → j ≡ getD jobs i noJob → r ≡ keptCharge aware ask j → sum + r ≡ sumOver (keptCharge aware ask) (take (i + 1) jobs)
+pub used-turn : (aware : Bool) (jobs : List Job) (ask : Ask) (i sum r : ℕ) (j : Job) → i < length jobs →
+    sum ≡ sumOver (keptCharge aware ask) (take i jobs) → j ≡ getD jobs i noJob → r ≡ keptCharge aware ask j → sum + r ≡ sumOver (keptCharge aware ask) (take (i + 1) jobs)
 used-turn aware jobs ask i sum r j h e f g =
     let k : r ≡ keptCharge aware ask (getD jobs i noJob) = g ∙ ap (keptCharge aware ask) f in
     omega (arith, e, k, sum-next (keptCharge aware ask) jobs i noJob h)
 
 -- past the last job all are added
-pub used-end : (aware : Bool) (jobs : List Job) (ask : Ask) (n m i : ℕ) → m ≡ min n 128 → length jobs ≡ 128 → i ≡ m → sumOver (keptCharge aware ask) (take i jobs) ≡ usedAtLeast aware n jobs ask
+pub used-end : (aware : Bool) (jobs : List Job) (ask : Ask) (n m i : ℕ) → m ≡ min n 128 → length jobs ≡ 128 → i ≡ m →
+    sumOver (keptCharge aware ask) (take i jobs) ≡ usedAtLeast aware n jobs ask
 unfolding usedAtLeast
-used-end aware jobs ask n m i e l h = rw (h, e, take-least n 128 jobs l)
+used-end aware jobs ask n m i e l h = rw (h, e, take-least n 128 jobs (omega arith))

@@ -73,7 +73,8 @@ module _ (s : Setting) (clock : Float) (gpus : List Gpu) (jobs : List Job) (j : 
 
   module _ (whole : eqb (j .ask .profile) 0 ≡ true) (stays : wholeStays s gpus jobs (j .ask) ≡ true) where
     -- not placeable when some candidates have left
-    whole-stuck : (vs : List ℕ) → All (λ v. (v < 128) × (candidateAt (s .options .aware) jobs (j .ask) v ≡ true)) vs → placeable s (freedAll gpus vs) (evictedAll clock jobs vs) j ≡ false
+    whole-stuck : (vs : List ℕ) → All (λ v. (v < 128) × (candidateAt (s .options .aware) jobs (j .ask) v ≡ true)) vs →
+        placeable s (freedAll gpus vs) (evictedAll clock jobs vs) j ≡ false
     unfolding wholeStays
     whole-stuck vs h =
         ⊎-elim
@@ -105,7 +106,9 @@ module _ (s : Setting) (clock : Float) (p : Pass) (id : ℕ) where
       split
       (eqb (j .ask .profile) 0)
       (λ z. let w : wholeStays s (p .gpus) (p .jobs) (j .ask) ≡ true = rw (t, z) at h in
-      considered-whole s p id j (allocation s p id j) refl clock p (q (whole-unplaceable s clock (p .gpus) (p .jobs) j z w)) (eqb-true (j .ask .profile) 0 z) (preempting-none s clock p id j (preempted s clock (p .gpus) (p .jobs) j) refl (whole-alone s clock (p .gpus) (p .jobs) j z w)))
+      considered-whole s p id j (allocation s p id j) refl clock p (q (whole-unplaceable s clock (p .gpus) (p .jobs) j z w))
+      (eqb-true (j .ask .profile) 0 z) (preempting-none s clock p id j (preempted s clock (p .gpus) (p .jobs) j) refl
+      (whole-alone s clock (p .gpus) (p .jobs) j z w)))
       (λ z. let w : not (isNone (resourceCause s (p .gpus) j)) ≡ true = rw (t, z) at h in
       considered-mig s p id j (allocation s p id j) refl clock (q (lacks-unplaceable s clock (p .gpus) (p .jobs) j w)) (eqb-false (j .ask .profile) 0 z))
 
@@ -122,6 +125,8 @@ module _ (s : Setting) (clock : Float) (p : Pass) (id : ℕ) where
       (λ t. sym (visited-other s clock p id j refl t))
 
 -- a turn of the walk that skips such a job
-pub skip-step : (s : Setting) (clock : Float) (queue : List ℕ) (p : Pass) (n i : ℕ) → i < n → stay s (p .gpus) (p .jobs) (getD queue i 0) ≡ true → through (visitAt s clock queue) p (n - (i + 1)) (i + 1) ≡ through (visitAt s clock queue) p (n - i) i
+pub skip-step : (s : Setting) (clock : Float) (queue : List ℕ) (p : Pass) (n i : ℕ) → i < n → stay s (p .gpus) (p .jobs) (getD queue i 0) ≡ true →
+    through (visitAt s clock queue) p (n - (i + 1)) (i + 1) ≡ through (visitAt s clock queue) p (n - i) i
 skip-step s clock queue p n i h t =
-    ap (λ (q : Pass). through (visitAt s clock queue) q (n - (i + 1)) (i + 1)) (sym (stay-visited s clock p (getD queue i 0) t)) ∙ through-step (visitAt s clock queue) p n i h
+    ap (λ (q : Pass). through (visitAt s clock queue) q (n - (i + 1)) (i + 1)) (sym (stay-visited s clock p (getD queue i 0) t))
+    ∙ through-step (visitAt s clock queue) p n i h

@@ -111,7 +111,8 @@ module _ (s : Setting) (p : Pass) (id : ℕ) (j : Job) (got : Allocation) (is : 
   pub considered-placed : (clock : Float) (r : Pass) → got .placed ≡ true → r ≡ placedAs p id j got → r ≡ considered s clock p id j
   unfolding considered
   considered-placed clock r t e =
-      pick-cases (λ q. r ≡ q) (allocation s p id j .placed) (placedAs p id j (allocation s p id j)) (pick (eqb (j .ask .profile) 0) (preempting s clock p id j) p) (λ h. e ∙ rw is) (λ h. absurd (never-both t (rw is h)))
+      pick-cases (λ q. r ≡ q) (allocation s p id j .placed) (placedAs p id j (allocation s p id j))
+      (pick (eqb (j .ask .profile) 0) (preempting s clock p id j) p) (λ h. e ∙ rw is) (λ h. absurd (never-both t (rw is h)))
 
   pub considered-whole : (clock : Float) (r : Pass) → got .placed ≡ false → j .ask .profile ≡ 0 → r ≡ preempting s clock p id j → r ≡ considered s clock p id j
   unfolding considered
@@ -135,18 +136,21 @@ module _ (s : Setting) (p : Pass) (id : ℕ) (j : Job) (got : Allocation) (is : 
   pub settled-none : got .placed ≡ false → withTables p (got .gpus) (p .jobs) ≡ settled s p id j
   settled-none f = rw (not-given f) (settled-not s p id j got is f)
 
-  pub considered-given : (clock : Float) (r : Pass) (gpus : List Gpu) → got .placed ≡ true → r ≡ placedAs (withTables p gpus (p .jobs)) id j got → r ≡ considered s clock p id j
+  pub considered-given : (clock : Float) (r : Pass) (gpus : List Gpu) → got .placed ≡ true → r ≡ placedAs (withTables p gpus (p .jobs)) id j got →
+      r ≡ considered s clock p id j
   unfolding placedAs
   considered-given clock r gpus t e = considered-placed s p id j got is clock r t e
 
-  pub considered-then : (clock : Float) (r : Pass) → got .placed ≡ false → j .ask .profile ≡ 0 → r ≡ preempting s clock (withTables p (got .gpus) (p .jobs)) id j → r ≡ considered s clock p id j
+  pub considered-then : (clock : Float) (r : Pass) → got .placed ≡ false → j .ask .profile ≡ 0 →
+      r ≡ preempting s clock (withTables p (got .gpus) (p .jobs)) id j → r ≡ considered s clock p id j
   considered-then clock r f z e = considered-whole s p id j got is clock r f z (e ∙ rw (not-given f))
 
   pub considered-none : (clock : Float) → got .placed ≡ false → (j .ask .profile ≡ 0 → ⊥) → withTables p (got .gpus) (p .jobs) ≡ considered s clock p id j
   considered-none clock f z = rw (not-given f) (considered-mig s p id j got is clock f z)
 
 -- where nobody leaves the tables stay as they are
-nobody-left : (s : Setting) (clock : Float) (gpus : List Gpu) (jobs : List Job) (j : Job) → preempted s clock gpus jobs j .count ≡ 0 → (preempted s clock gpus jobs j .gpus ≡ gpus) × (preempted s clock gpus jobs j .jobs ≡ jobs)
+nobody-left : (s : Setting) (clock : Float) (gpus : List Gpu) (jobs : List Job) (j : Job) → preempted s clock gpus jobs j .count ≡ 0 →
+    (preempted s clock gpus jobs j .gpus ≡ gpus) × (preempted s clock gpus jobs j .jobs ≡ jobs)
 unfolding preempted made freedAll evictedAll
 nobody-left s clock gpus jobs j z = (rw z, rw z)
 
@@ -170,7 +174,8 @@ module _ (s : Setting) (clock : Float) (p : Pass) (id : ℕ) (j : Job) (got : Pr
       e ∙ rw (ne-eqb (preempted s clock (p .gpus) (p .jobs) j .count) 0 u, w, is)
 
   -- the tables are those that preemption gave back, whatever they were
-  pub preempting-way : (r way : Pass) (gpus : List Gpu) (jobs : List Job) → (got .count ≡ 0 → ⊥) → way ≡ madeWay clock (withTables p gpus jobs) id got → r ≡ settled s way id j → r ≡ preempting s clock p id j
+  pub preempting-way : (r way : Pass) (gpus : List Gpu) (jobs : List Job) → (got .count ≡ 0 → ⊥) →
+      way ≡ madeWay clock (withTables p gpus jobs) id got → r ≡ settled s way id j → r ≡ preempting s clock p id j
   unfolding madeWay
   preempting-way r way gpus jobs z w e = preempting-some r way z w e
 
@@ -183,6 +188,7 @@ module _ (s : Setting) (clock : Float) (p : Pass) (id : ℕ) (j : Job) (is : j �
   unfolding visited
   visited-victim t v = let u : waits (getD (p .jobs) id noJob) ≡ true = rw (← is) t in rw (u, v)
 
-  pub visited-waiting : (r : Pass) → waits j ≡ true → has id (take (p .line .evicted) (p .line .victims)) ≡ false → r ≡ considered s clock p id j → r ≡ visited s clock p id
+  pub visited-waiting : (r : Pass) → waits j ≡ true → has id (take (p .line .evicted) (p .line .victims)) ≡ false → r ≡ considered s clock p id j →
+      r ≡ visited s clock p id
   unfolding visited
   visited-waiting r t v e = let u : waits (getD (p .jobs) id noJob) ≡ true = rw (← is) t in e ∙ rw (u, v, is)

@@ -57,7 +57,6 @@ fn is_reachable(
 ) -> bool
     ensures { λ r. ⌜ r ≡ reachable aware sites (jobsOf (now (jobs .entry))) ask g ⌝ }
 {
-    // in a full house most GPUs fall out here
     if may_be_free(aware, jobs, ask, g.owner) {
         let site = site_at(sites, wide(g.node));
         return eligible_gpu(ask, site, with_owner(g, 0));

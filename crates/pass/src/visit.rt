@@ -68,7 +68,8 @@ fn put_placing(placed: [Placing; JOBS], i: usize, p: Placing) -> [Placing; JOBS]
 
 // The job has what was allocated to it, and starts when the pass is over.
 fn place_as(jobs: &mut [[u64; ROW]; JOBS], turn: Turn, id: u16, j: Job, got: Got) -> Turn
-    ensures { λ r. ⌜ ((gpus : List (List ℕ)) → wholePass r gpus (now (jobs .exit)) ≡ placedAs (wholePass turn gpus (now (jobs .entry))) id j (wholeAllocation got gpus)) ⌝ }
+    ensures { λ r. ⌜ ((gpus : List (List ℕ)) → wholePass r gpus (now (jobs .exit))
+        ≡ placedAs (wholePass turn gpus (now (jobs .entry))) id j (wholeAllocation got gpus)) ⌝ }
 {
     let placed = turn.placed;
     let p = Placing {
@@ -93,7 +94,8 @@ fn settle(
     id: u16,
     j: Job,
 ) -> Turn
-    ensures { λ r. ⌜ wholePass r (now (gpus .exit)) (now (jobs .exit)) ≡ settled setting (wholePass turn (now (gpus .entry)) (now (jobs .entry))) id j ⌝ }
+    ensures { λ r. ⌜ wholePass r (now (gpus .exit)) (now (jobs .exit))
+        ≡ settled setting (wholePass turn (now (gpus .entry)) (now (jobs .entry))) id j ⌝ }
 {
     let got = allocate(setting, gpus, jobs, j, plus_one(id));
     if got.placed {
@@ -104,7 +106,8 @@ fn settle(
 
 // The pass when the victims have left.
 fn make_way(clock: f64, jobs: &[[u64; ROW]; JOBS], turn: Turn, id: u16, got: Way) -> Turn
-    ensures { λ r. ⌜ ((gpus : List (List ℕ)) → wholePass r gpus (now (jobs .entry)) ≡ madeWay clock (wholePass turn gpus (now (jobs .entry))) id (wholePreempted got gpus (now (jobs .entry)))) ⌝ }
+    ensures { λ r. ⌜ ((gpus : List (List ℕ)) → wholePass r gpus (now (jobs .entry))
+        ≡ madeWay clock (wholePass turn gpus (now (jobs .entry))) id (wholePreempted got gpus (now (jobs .entry)))) ⌝ }
 {
     let line = turn.line;
     let placed = turn.placed;
@@ -126,7 +129,8 @@ fn preempt_for(
     id: u16,
     j: Job,
 ) -> Turn
-    ensures { λ r. ⌜ wholePass r (now (gpus .exit)) (now (jobs .exit)) ≡ preempting setting clock (wholePass turn (now (gpus .entry)) (now (jobs .entry))) id j ⌝ }
+    ensures { λ r. ⌜ wholePass r (now (gpus .exit)) (now (jobs .exit))
+        ≡ preempting setting clock (wholePass turn (now (gpus .entry)) (now (jobs .entry))) id j ⌝ }
 {
     let got = preempt(setting, clock, gpus, jobs, j);
     if got.count == 0 {
@@ -146,7 +150,8 @@ fn consider(
     id: u16,
     j: Job,
 ) -> Turn
-    ensures { λ r. ⌜ wholePass r (now (gpus .exit)) (now (jobs .exit)) ≡ considered setting clock (wholePass turn (now (gpus .entry)) (now (jobs .entry))) id j ⌝ }
+    ensures { λ r. ⌜ wholePass r (now (gpus .exit)) (now (jobs .exit))
+        ≡ considered setting clock (wholePass turn (now (gpus .entry)) (now (jobs .entry))) id j ⌝ }
 {
     let got = allocate(setting, gpus, jobs, j, plus_one(id));
     if got.placed {
@@ -168,7 +173,8 @@ pub fn visit(
     turn: Turn,
     id: u16,
 ) -> Turn
-    ensures { λ r. ⌜ wholePass r (now (gpus .exit)) (now (jobs .exit)) ≡ visited setting clock (wholePass turn (now (gpus .entry)) (now (jobs .entry))) id ⌝ }
+    ensures { λ r. ⌜ wholePass r (now (gpus .exit)) (now (jobs .exit))
+        ≡ visited setting clock (wholePass turn (now (gpus .entry)) (now (jobs .entry))) id ⌝ }
 {
     let line = turn.line;
     let victims = line.victims;

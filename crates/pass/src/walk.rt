@@ -47,7 +47,9 @@ fn visit_all(
     jobs: &mut [[u64; ROW]; JOBS],
     turn: Turn,
 ) -> Turn
-    ensures { λ r. ⌜ wholePass r (now (gpus .exit)) (now (jobs .exit)) ≡ through (visitAt setting clock (turn .line .queue)) (wholePass turn (now (gpus .entry)) (now (jobs .entry))) (min (turn .line .waiting) 128) 0 ⌝ }
+    ensures { λ r. ⌜ wholePass r (now (gpus .exit)) (now (jobs .exit))
+        ≡ through (visitAt setting clock (turn .line .queue)) (wholePass turn (now (gpus .entry)) (now (jobs .entry)))
+        (min (turn .line .waiting) 128) 0 ⌝ }
 {
     let line = turn.line;
     let queue = line.queue;
@@ -77,7 +79,8 @@ pub fn walk(
     jobs: &mut [[u64; ROW]; JOBS],
     turn: Turn,
 ) -> Turn
-    ensures { λ r. ⌜ wholePass r (now (gpus .exit)) (now (jobs .exit)) ≡ walked setting clock (wholePass turn (now (gpus .entry)) (now (jobs .entry))) ⌝ }
+    ensures { λ r. ⌜ wholePass r (now (gpus .exit)) (now (jobs .exit))
+        ≡ walked setting clock (wholePass turn (now (gpus .entry)) (now (jobs .entry))) ⌝ }
 {
     let ordered = sort_line(jobs, turn);
     visit_all(setting, clock, gpus, jobs, ordered)

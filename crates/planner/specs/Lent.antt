@@ -29,7 +29,8 @@ abbrev pub restOf : Plan → Rest
 restOf p = record { setting = p .setting; queue = p .queue; waiting = p .waiting; next = p .next; clock = p .clock; totals = p .totals }
 
 -- with rows of its tables it is the plan again
-pub whole-is : (p : Plan) (gpus jobs room : List (List ℕ)) → gpusOf gpus ≡ p .gpus → jobsOf jobs ≡ p .jobs → eventsOf room ≡ p .events → wholePlan (restOf p) gpus jobs room ≡ p
+pub whole-is : (p : Plan) (gpus jobs room : List (List ℕ)) → gpusOf gpus ≡ p .gpus → jobsOf jobs ≡ p .jobs → eventsOf room ≡ p .events →
+    wholePlan (restOf p) gpus jobs room ≡ p
 whole-is p gpus jobs room g j e = rw (g, j, e)
 
 -- the plan that the tables hold after a step with a buffer of so many words: also one that is not permitted

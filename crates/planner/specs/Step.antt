@@ -64,6 +64,7 @@ module _ (p : Plan) (buffer : List ℕ) where
       unfolding stepped wordsAfter
       done-barred k = let e : ltb (length buffer) wordsNeeded ≡ false = le-ltb _ _ h in (rw (e, n, ← is, k), rw (e, n, ← is, k))
 
-      pub done-taken : (out : List ℕ) → m .ok ≡ true → out ≡ over (words (decisions (m .log))) buffer → Done p buffer (record { answer = Decisions (m .log .count); plan = m .plan }) out
+      pub done-taken : (out : List ℕ) → m .ok ≡ true → out ≡ over (words (decisions (m .log))) buffer →
+          Done p buffer (record { answer = Decisions (m .log .count); plan = m .plan }) out
       unfolding stepped wordsAfter
       done-taken out k o = let e : ltb (length buffer) wordsNeeded ≡ false = le-ltb _ _ h in (rw (e, n, ← is, k), rw (e, n, ← is, k) o)

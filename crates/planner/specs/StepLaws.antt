@@ -46,7 +46,8 @@ module _ (p : Plan) (buffer : List ℕ) where
       (length buffer < wordsNeeded → P (record { answer = ShortBuffer; plan = p }) buffer) →
       (wordsNeeded ≤ length buffer → hasEvent p ≡ false → P (record { answer = NoEvent; plan = p }) buffer) →
       (wordsNeeded ≤ length buffer → hasEvent p ≡ true → advanced p .ok ≡ false → P (record { answer = NotPermitted; plan = p }) buffer) →
-      (wordsNeeded ≤ length buffer → hasEvent p ≡ true → advanced p .ok ≡ true → P (record { answer = Decisions (advanced p .log .count); plan = advanced p .plan }) (over told buffer)) →
+      (wordsNeeded ≤ length buffer → hasEvent p ≡ true → advanced p .ok ≡ true →
+      P (record { answer = Decisions (advanced p .log .count); plan = advanced p .plan }) (over told buffer)) →
       P (stepped p (length buffer)) (wordsAfter p buffer)
   step-cases P short none barred taken =
       split
@@ -101,7 +102,8 @@ module _ (p : Plan) (buffer : List ℕ) where
       omega (arith, words-length (decisions (advanced p .log)), length-take (advanced p .log .count) (advanced p .log .table))
 
   -- the decisions stand in front, and the words behind them, from four for each on, are as they were
-  pub accepted-words : number ≡ 0 → (take (length told) (wordsAfter p buffer) ≡ told) × (drop (4 * advanced p .log .count) (wordsAfter p buffer) ≡ drop (4 * advanced p .log .count) buffer)
+  pub accepted-words : number ≡ 0 → (take (length told) (wordsAfter p buffer) ≡ told) ×
+      (drop (4 * advanced p .log .count) (wordsAfter p buffer) ≡ drop (4 * advanced p .log .count) buffer)
   accepted-words =
       step-cases
       (λ r out. numberOf (r .answer) ≡ 0 → (take (length told) out ≡ told) × (drop (4 * advanced p .log .count) out ≡ drop (4 * advanced p .log .count) buffer))

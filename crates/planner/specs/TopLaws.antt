@@ -70,7 +70,8 @@ module _ (P : List Event → Type 0) (keeps : (events : List Event) (x : Event) 
   settled-keeps m h =
       let p : Plan = m .plan in
       let q : Pass = passOf m in
-      starts-keep _ _ _ (take (q .count) (q .placed)) (timeouts-keep (p .clock) (q .jobs) (record { events = p .events; next = p .next; ok = q .line .ok }) (take (q .line .evicted) (q .line .victims)) h)
+      starts-keep _ _ _ (take (q .count) (q .placed))
+      (timeouts-keep (p .clock) (q .jobs) (record { events = p .events; next = p .next; ok = q .line .ok }) (take (q .line .evicted) (q .line .victims)) h)
 
   -- of the events only an arrival adds one
   stale-keeps : (p : Plan) → P (p .events) → P (stale p .plan .events)
@@ -96,9 +97,11 @@ module _ (P : List Event → Type 0) (keeps : (events : List Event) (x : Event) 
   happened-keeps Empty p e h = stale-keeps p h
   happened-keeps Arrival p e h = arrives-keeps p (e .job) h
   happened-keeps Completion p e h =
-      pick-either (λ (m : Moment). P (m .plan .events)) (ofRun (jobOf p (e .job)) (e .generation)) (completes p (e .job)) (stale p) (completes-keeps p (e .job) h) (stale-keeps p h)
+      pick-either (λ (m : Moment). P (m .plan .events)) (ofRun (jobOf p (e .job)) (e .generation)) (completes p (e .job)) (stale p)
+      (completes-keeps p (e .job) h) (stale-keeps p h)
   happened-keeps Timeout p e h =
-      pick-either (λ (m : Moment). P (m .plan .events)) (ofTimeout (jobOf p (e .job)) (e .generation)) (timesOut p (e .job)) (stale p) (fails-keeps p (e .job) h) (stale-keeps p h)
+      pick-either (λ (m : Moment). P (m .plan .events)) (ofTimeout (jobOf p (e .job)) (e .generation)) (timesOut p (e .job)) (stale p)
+      (fails-keeps p (e .job) h) (stale-keeps p h)
 
   -- the whole step
   pub advanced-keeps : (p : Plan) → P (withEvent p .events) → P (advanced p .plan .events)
@@ -124,7 +127,8 @@ unfolding leftIn
 left-grown p size top free =
     let same : Grown top (p .events) = grown-free top (p .events) free in
     let P : Plan → Type 0 = λ q. Grown top (q .events) in
-    pick-either P (ltb size wordsNeeded) p (pick (hasEvent p) (advanced p .plan) p) same (pick-either P (hasEvent p) (advanced p .plan) p (advanced-grown top p free) same)
+    pick-either P (ltb size wordsNeeded) p (pick (hasEvent p) (advanced p .plan) p) same
+    (pick-either P (hasEvent p) (advanced p .plan) p (advanced-grown top p free) same)
 
 -- The first free entry from the top on is a top of the plan that a step leaves in the tables.
 pub left-top : (p : Plan) (size top : ℕ) → freeFrom top (p .events) → freeFrom (topAfter (leftIn p size .events) top) (leftIn p size .events)

@@ -16,7 +16,7 @@ use Rattle.model.specs.Job.{noJob, newJob}
 use Rattle.model.specs.declared.job.Ask.{Ask}
 use Rattle.model.specs.declared.job.Job.{Job}
 use Rattle.model.specs.declared.setting.Setting.{Setting}
-use Rattle.cluster.specs.Order.{byNumbers, sortedFront}
+use Rattle.order.specs.Order.{byNumbers, sortedFront}
 use Rattle.cluster.specs.Queue.{priorityOf}
 use Rattle.eligible.specs.Chosen.{chosen}
 use Rattle.eligible.specs.declared.chosen.Chosen.{Chosen}
@@ -52,7 +52,9 @@ sorted-held before l =
     rw (take-append-seam l (replicate (128 - length l) 0), drop-append-seam l (replicate (128 - length l) 0), sort-length before l)
 
 -- the candidates in job order, sorted by these numbers, are the candidates
-pub candidates-sorted : (s : Setting) (jobs : List Job) (ask : Ask) (found : Chosen) (first second ids : List ℕ) → found ≡ chosen (candidatesByNumber (s .options .aware) jobs (s .jobs) ask) → first ≡ map priorityOf jobs → second ≡ replicate 128 0 → ids ≡ sortedFront (byNumbers false first second) (found .count) (found .ids) → record { ids = ids; count = found .count } ≡ chosen (candidates s jobs ask)
+pub candidates-sorted : (s : Setting) (jobs : List Job) (ask : Ask) (found : Chosen) (first second ids : List ℕ) →
+    found ≡ chosen (candidatesByNumber (s .options .aware) jobs (s .jobs) ask) → first ≡ map priorityOf jobs → second ≡ replicate 128 0 →
+    ids ≡ sortedFront (byNumbers false first second) (found .count) (found .ids) → record { ids = ids; count = found .count } ≡ chosen (candidates s jobs ask)
 unfolding candidates
 candidates-sorted s jobs ask found first second ids f a b e =
     let l : List ℕ = candidatesByNumber (s .options .aware) jobs (s .jobs) ask in

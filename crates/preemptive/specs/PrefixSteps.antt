@@ -51,16 +51,20 @@ module _ (s : Setting) (clock : Float) (gpus : List Gpu) (jobs : List Job) (j : 
       record { gpus-now = refl; jobs-now = refl; still = rw e }
 
   -- the tables when one more has left
-  freed-next : (k v : ℕ) (free after : List Gpu) → k < length cs → v ≡ getD cs k 0 → free ≡ freedAll gpus (take k cs) → after ≡ map (freed (plusOne v)) free → after ≡ freedAll gpus (take (k + 1) cs)
+  freed-next : (k v : ℕ) (free after : List Gpu) → k < length cs → v ≡ getD cs k 0 → free ≡ freedAll gpus (take k cs) →
+      after ≡ map (freed (plusOne v)) free → after ≡ freedAll gpus (take (k + 1) cs)
   unfolding freedAll
   freed-next k v free after h e f a =
       a ∙ rw (take-next cs k 0 h, freed-append gpus (take k cs) (getD cs k 0 ∷ []), e, f)
 
-  evicted-next : (k v : ℕ) (left after : List Job) → k < length cs → v ≡ getD cs k 0 → left ≡ evictedAll clock jobs (take k cs) → after ≡ evictedAll clock left (v ∷ []) → after ≡ evictedAll clock jobs (take (k + 1) cs)
+  evicted-next : (k v : ℕ) (left after : List Job) → k < length cs → v ≡ getD cs k 0 → left ≡ evictedAll clock jobs (take k cs) →
+      after ≡ evictedAll clock left (v ∷ []) → after ≡ evictedAll clock jobs (take (k + 1) cs)
   evicted-next k v left after h e f a =
       a ∙ rw (take-next cs k 0 h, evicted-append clock jobs (take k cs) (getD cs k 0 ∷ []), e, f)
 
-  module _ (k v : ℕ) (free : List Gpu) (left : List Job) (freeAfter : List Gpu) (leftAfter : List Job) (within : k < length cs) (it : v ≡ getD cs k 0) (so : Tried s clock gpus jobs j cs k free left) (away : freeAfter ≡ map (freed (plusOne v)) free) (gone : leftAfter ≡ evictedAll clock left (v ∷ [])) where
+  module _ (k v : ℕ) (free : List Gpu) (left : List Job) (freeAfter : List Gpu) (leftAfter : List Job) (within : k < length cs)
+      (it : v ≡ getD cs k 0) (so : Tried s clock gpus jobs j cs k free left) (away : freeAfter ≡ map (freed (plusOne v)) free)
+      (gone : leftAfter ≡ evictedAll clock left (v ∷ [])) where
     -- the code's test is the definition's
     opens-is : (r : Bool) → r ≡ placeable s freeAfter leftAfter j → opens s clock gpus jobs j cs (k + 1) ≡ r
     opens-is r e =
@@ -76,22 +80,27 @@ module _ (s : Setting) (clock : Float) (gpus : List Gpu) (jobs : List Job) (j : 
         }
 
     -- a turn after which it is
-    pub tried-found : (ids : List ℕ) (r : Bool) → r ≡ placeable s freeAfter leftAfter j → r ≡ true → record { gpus = freeAfter; jobs = leftAfter; victims = ids; count = k + 1 } ≡ made s clock gpus jobs j ids cs
+    pub tried-found : (ids : List ℕ) (r : Bool) → r ≡ placeable s freeAfter leftAfter j → r ≡ true →
+        record { gpus = freeAfter; jobs = leftAfter; victims = ids; count = k + 1 } ≡ made s clock gpus jobs j ids cs
     unfolding made shortest
     tried-found ids r e t =
-        let f : first (opens s clock gpus jobs j cs) (length cs) 1 ≡ k + 1 = sym (so .still) ∙ first-found (opens s clock gpus jobs j cs) (length cs + 1) (k + 1) (omega arith) (opens-is r e ∙ t) in
+        let f : first (opens s clock gpus jobs j cs) (length cs) 1 ≡ k + 1 = sym (so .still)
+        ∙ first-found (opens s clock gpus jobs j cs) (length cs + 1) (k + 1) (omega arith) (opens-is r e ∙ t) in
         let a : freeAfter ≡ freedAll gpus (take (k + 1) cs) = freed-next k v free freeAfter within it (so .gpus-now) away in
         let b : leftAfter ≡ evictedAll clock jobs (take (k + 1) cs) = evicted-next k v left leftAfter within it (so .jobs-now) gone in
         rw (f, le-leb (k + 1) (length cs) (omega arith), a, b)
 
   -- all have left, and it is not
-  pub tried-end : (k : ℕ) (free : List Gpu) (left : List Job) (ids : List ℕ) → k ≡ length cs → Tried s clock gpus jobs j cs k free left → record { gpus = gpus; jobs = jobs; victims = ids; count = 0 } ≡ made s clock gpus jobs j ids cs
+  pub tried-end : (k : ℕ) (free : List Gpu) (left : List Job) (ids : List ℕ) → k ≡ length cs → Tried s clock gpus jobs j cs k free left →
+      record { gpus = gpus; jobs = jobs; victims = ids; count = 0 } ≡ made s clock gpus jobs j ids cs
   unfolding made shortest freedAll evictedAll
   tried-end k free left ids h so =
-      let f : first (opens s clock gpus jobs j cs) (length cs) 1 ≡ k + 1 = sym (so .still) ∙ first-end (opens s clock gpus jobs j cs) (length cs + 1) (k + 1) (omega arith) in
+      let f : first (opens s clock gpus jobs j cs) (length cs) 1 ≡ k + 1 = sym (so .still)
+      ∙ first-end (opens s clock gpus jobs j cs) (length cs + 1) (k + 1) (omega arith) in
       rw (f, lt-leb (k + 1) (length cs) (omega arith))
 
 -- with the candidates as they are held it is what preemption does
-pub made-is : (s : Setting) (clock : Float) (gpus : List Gpu) (jobs : List Job) (j : Job) (found : Chosen) (r : Preempted) → found ≡ chosen (candidates s jobs (j .ask)) → r ≡ made s clock gpus jobs j (found .ids) (take (found .count) (found .ids)) → r ≡ preempted s clock gpus jobs j
+pub made-is : (s : Setting) (clock : Float) (gpus : List Gpu) (jobs : List Job) (j : Job) (found : Chosen) (r : Preempted) →
+    found ≡ chosen (candidates s jobs (j .ask)) → r ≡ made s clock gpus jobs j (found .ids) (take (found .count) (found .ids)) → r ≡ preempted s clock gpus jobs j
 unfolding preempted
 made-is s clock gpus jobs j found r f e = e ∙ rw (f, pad-take 128 0 (candidates s jobs (j .ask)))

@@ -1,6 +1,5 @@
 // The candidates: running jobs that may have to make way for a job, in their order.
 
-use cluster::order::sort_by;
 use cluster::queue::priorities;
 use cluster::usage::is_running;
 use eligible::chosen::Chosen;
@@ -9,6 +8,7 @@ use model::job::Ask;
 use model::job::Job;
 use model::setting::Setting;
 use model::sizes::JOBS;
+use order::sort_front;
 use rows::job::ROW;
 use rows::job::read_job;
 use small::both;
@@ -74,7 +74,7 @@ pub fn candidates(setting: Setting, jobs: &[[u64; ROW]; JOBS], ask: Ask) -> Chos
     let ids = found.ids;
     let first = priorities(jobs);
     let second = no_numbers();
-    let sorted = sort_by(ids, found.count, &first, &second);
+    let sorted = sort_front(false, &first, &second, ids, found.count);
     Chosen {
         ids: sorted,
         count: found.count,

@@ -55,7 +55,8 @@ fn make_room(
     ids: [u16; JOBS],
     count: usize,
 ) -> Way
-    ensures { λ r. ⌜ wholePreempted r (now (gpus .exit)) (now (jobs .exit)) ≡ made setting clock (gpusOf (now (gpus .entry))) (jobsOf (now (jobs .entry))) j ids (take count ids) ⌝ }
+    ensures { λ r. ⌜ wholePreempted r (now (gpus .exit)) (now (jobs .exit))
+        ≡ made setting clock (gpusOf (now (gpus .entry))) (jobsOf (now (jobs .entry))) j ids (take count ids) ⌝ }
 {
     let n = lesser(count, JOBS);
     let mut free = *gpus;
@@ -88,7 +89,8 @@ pub fn preempt(
     jobs: &mut [[u64; ROW]; JOBS],
     j: Job,
 ) -> Way
-    ensures { λ r. ⌜ wholePreempted r (now (gpus .exit)) (now (jobs .exit)) ≡ preempted setting clock (gpusOf (now (gpus .entry))) (jobsOf (now (jobs .entry))) j ⌝ }
+    ensures { λ r. ⌜ wholePreempted r (now (gpus .exit)) (now (jobs .exit))
+        ≡ preempted setting clock (gpusOf (now (gpus .entry))) (jobsOf (now (jobs .entry))) j ⌝ }
 {
     let ask = j.ask;
     let found = candidates(setting, jobs, ask);

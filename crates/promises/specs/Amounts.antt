@@ -1,8 +1,8 @@
 -- A running job holds exactly as many GPUs or slices as each of its started decisions says, on every plan reached from a loaded trace.
-use mathlib.Core.Path.{_≡_, refl, sym, ap, _∙_}
+use mathlib.Core.Path.{_≡_, refl, sym, _∙_}
 use mathlib.Core.Bool.{Bool, true, false}
-use mathlib.Core.List.{List, [], _∷_, _++_}
-use Prim.Native.Nat.{ℕ, _+_, _≤_}
+use mathlib.Core.List.{List, _∷_, _++_}
+use Prim.Native.Nat.{ℕ, _+_}
 use native.Mathlib.Omega.{arith}
 use lib.ListN.{length, take, length-map}
 use Rattle.laws.specs.Choice.{pick-either}
@@ -43,7 +43,8 @@ Says jobs₀ m = All (SaysAmount jobs₀) (decisions (m .log))
 
 said-says : (jobs₀ : List Job) (p : Plan) (ok : Bool) (kind : Kind) (job other : ℕ) → isStarted kind ≡ false → Says jobs₀ (said p ok kind job other)
 unfolding said
-said-says jobs₀ p ok kind job other e = rw (one-told p kind job other) (says-other jobs₀ (record { time = bitsOf (p .clock); kind = kind; job = job; other = other }) e, tt)
+said-says jobs₀ p ok kind job other e = rw (one-told p kind job other)
+    (says-other jobs₀ (record { time = bitsOf (p .clock); kind = kind; job = job; other = other }) e, tt)
 
 stale-says : (jobs₀ : List Job) (p : Plan) → Says jobs₀ (stale p)
 unfolding stale
@@ -53,8 +54,10 @@ kind-says : (jobs₀ : List Job) (kind : EventKind) (p : Plan) (e : Event) → S
 unfolding completed timedOut arrives completes timesOut
 kind-says jobs₀ Empty p e = stale-says jobs₀ p
 kind-says jobs₀ Arrival p e = said-says jobs₀ _ _ Kinds.Arrived (e .job) 0 refl
-kind-says jobs₀ Completion p e = pick-either (Says jobs₀) (ofRun (jobOf p (e .job)) (e .generation)) (completes p (e .job)) (stale p) (said-says jobs₀ _ true Kinds.Completed (e .job) _ refl) (stale-says jobs₀ p)
-kind-says jobs₀ Timeout p e = pick-either (Says jobs₀) (ofTimeout (jobOf p (e .job)) (e .generation)) (timesOut p (e .job)) (stale p) (said-says jobs₀ _ _ Kinds.Failed (e .job) 0 refl) (stale-says jobs₀ p)
+kind-says jobs₀ Completion p e = pick-either (Says jobs₀) (ofRun (jobOf p (e .job)) (e .generation)) (completes p (e .job)) (stale p)
+    (said-says jobs₀ _ true Kinds.Completed (e .job) _ refl) (stale-says jobs₀ p)
+kind-says jobs₀ Timeout p e = pick-either (Says jobs₀) (ofTimeout (jobOf p (e .job)) (e .generation)) (timesOut p (e .job)) (stale p)
+    (said-says jobs₀ _ _ Kinds.Failed (e .job) 0 refl) (stale-says jobs₀ p)
 
 settled-says : (jobs₀ : List Job) (k : ℕ) (h : List Decision) (m : Moment) → Amid jobs₀ k h m → Says jobs₀ m → Says jobs₀ (settled m)
 unfolding settled startsOf passOf newLine
@@ -63,7 +66,8 @@ settled-says jobs₀ k h m a says =
     let line : _ = newLine (p .queue) (p .waiting) (p .totals) (m .log) (m .ok) in
     let sized : _ = new-sized (p .queue) (p .waiting) (p .totals) (m .log) (m .ok) (a .between .queue) (a .table) in
     let so : Standing (passOf m) = pass-standing (p .setting) (p .clock) (p .gpus) (p .jobs) line (a .between .gpus) (a .between .good .size) sized refl in
-    let c : passOf m .line .log .count ≡ m .log .count + passOf m .line .evicted = pass-count (p .setting) (p .clock) (p .gpus) (p .jobs) line (a .between .gpus) (a .between .good .size) sized refl (a .own) in
+    let c : passOf m .line .log .count ≡ m .log .count + passOf m .line .evicted =
+    pass-count (p .setting) (p .clock) (p .gpus) (p .jobs) line (a .between .gpus) (a .between .good .size) sized refl (a .own) in
     let ps : List Placing = take (passOf m .count) (passOf m .placed) in
     let l : length ps ≡ passOf m .count = sym (length-map ps (λ x. x .job)) ∙ so .count in
     says-starts (p .setting .options) (p .clock) jobs₀ _ ps (so .line .log) (omega (arith, l, c, a .own, few (passOf m) so))
@@ -81,9 +85,13 @@ step-says jobs₀ k h p b has =
 pub reached-says : (trace : List ℕ) (k : ℕ) (p : Plan) (h : List Decision) → Reached trace k p h → All (SaysAmount (first trace .jobs)) h
 reached-says trace k p h (begin e) = tt
 reached-says trace k p h (onward {k = n} {p = q} {h = g} r buffer e) =
-    all-append (SaysAmount (first trace .jobs)) g (decisions (advanced q .log)) (reached-says trace n q g r) (step-says (first trace .jobs) n g q (reached-between trace n q g r .0) (accepted-for q buffer e .1))
+    all-append (SaysAmount (first trace .jobs)) g (decisions (advanced q .log)) (reached-says trace n q g r)
+    (step-says (first trace .jobs) n g q (reached-between trace n q g r .0) (accepted-for q buffer e .1))
 
 -- And a job that runs holds exactly so many.
-pub held-as-told : (trace : List ℕ) (k : ℕ) (p : Plan) (h : List Decision) → Reached trace k p h → (before after : List Decision) (d : Decision) → h ≡ before ++ (d ∷ after) → d .kind ≡ Kinds.Started → jobAt (p .jobs) (d .job) .state ≡ Running → holds (d .job + 1) (p .gpus) .gpus + holds (d .job + 1) (p .gpus) .slices ≡ d .other
+pub held-as-told : (trace : List ℕ) (k : ℕ) (p : Plan) (h : List Decision) → Reached trace k p h → (before after : List Decision) (d : Decision) →
+    h ≡ before ++ (d ∷ after) → d .kind ≡ Kinds.Started → jobAt (p .jobs) (d .job) .state ≡ Running →
+    holds (d .job + 1) (p .gpus) .gpus + holds (d .job + 1) (p .gpus) .slices ≡ d .other
 held-as-told trace k p h r before after d e kind run =
-    holds-told (p .setting .gpus) (p .gpus) (first trace .jobs) (p .jobs) h (reached-owning trace k p h r .1 .0) (reached-between trace k p h r .0 .good .asks) (reached-says trace k p h r) before after d e kind run
+    holds-told (p .setting .gpus) (p .gpus) (first trace .jobs) (p .jobs) h (reached-owning trace k p h r .1 .0)
+    (reached-between trace k p h r .0 .good .asks) (reached-says trace k p h r) before after d e kind run

@@ -1,18 +1,16 @@
 -- What holds of a plan between two steps, and that what follows an event keeps it.
 use mathlib.Core.Path.{_≡_, refl, sym, ap, _∙_}
-use mathlib.Core.Bool.{true, false}
-use mathlib.Core.List.{List, [], _∷_, _++_, map, append-nil}
-use Prim.Native.Nat.{ℕ, _+_, _*_, _≤_, _<_}
+use mathlib.Core.Bool.{true}
+use mathlib.Core.List.{List, _++_}
+use Prim.Native.Nat.{ℕ, _+_, _*_, _≤_}
 use native.Mathlib.Omega.{arith}
-use lib.ListN.{length, getD, take, length-take, length-map}
-use lib.Ieee.{Float}
+use lib.ListN.{length, take, length-take, length-map}
 use Rattle.laws.specs.Lists.{All, Distinct, all-every, all-weaken, distinct-right, pad-length}
 use Rattle.laws.specs.Sums.{sumOver, bit, sum-same}
-use Rattle.model.specs.Job.{noJob}
 use Rattle.model.specs.declared.job.Ask.{Ask}
 use Rattle.model.specs.declared.job.Job.{Job}
 use Rattle.model.specs.declared.job.JobState.{JobState}
-use Rattle.model.specs.declared.job.JobState.the-variants.{Pending, Waiting, Placed, Running, Finished, Failed}
+use Rattle.model.specs.declared.job.JobState.the-variants.{Placed}
 use Rattle.model.specs.declared.plan.Plan.{Plan}
 use Rattle.model.specs.declared.setting.Setting.{Setting}
 use Rattle.log.specs.Log.{decisions}
@@ -30,9 +28,8 @@ use Rattle.apart.specs.StartsLaws.{jobsOf}
 use Rattle.starts.specs.declared.begin.Placing.{Placing}
 use Rattle.starts.specs.declared.begin.Begun.{Begun}
 use Rattle.pass.specs.Visit.{newPass}
-use Rattle.pass.specs.Walk.{sorted, walked}
+use Rattle.pass.specs.Walk.{sorted}
 use Rattle.apart.specs.Standing.{Standing, InState, placedOf, few}
-use Rattle.apart.specs.Keeps.{Kept}
 use Rattle.apart.specs.PassLaws.{pass-keeps, pass-standing}
 use Rattle.pass.specs.declared.visit.Pass.{Pass}
 use Rattle.happen.specs.declared.Moment.{Moment}
@@ -40,7 +37,7 @@ use Rattle.engine.specs.Settle.{passOf, startsOf, withPass, settled}
 use Rattle.history.specs.Good.{jobAt, JobOk, Good, begun}
 use Rattle.history.specs.PassGood.{PassGood, pass-good}
 use Rattle.history.specs.StartsGood.{Room, starts-good}
-use Rattle.history.specs.Entries.{inUse, arriving}
+use Rattle.history.specs.Entries.{arriving}
 use Rattle.history.specs.Queued.{Counted, Grown, timedOne, timeouts-grown, starts-grown}
 use Rattle.history.specs.Owed.{Rest, allEvents, all-few}
 use Rattle.history.specs.Good.{came}
@@ -70,7 +67,8 @@ pub record Amid (jobs₀ : List Job) (k : ℕ) (h : List Decision) (m : Moment) 
   pub own : m .log .count ≤ 1
 
 -- at most nine events a job were ever queued
-pub nine : (jobs₀ : List Job) (s : Setting) (jobs : List Job) (h : List Decision) → s .jobs ≤ 128 → Good s jobs₀ jobs h → Rest (s .jobs) jobs → s .jobs + allEvents jobs ≤ 9 * s .jobs
+pub nine : (jobs₀ : List Job) (s : Setting) (jobs : List Job) (h : List Decision) → s .jobs ≤ 128 → Good s jobs₀ jobs h → Rest (s .jobs) jobs →
+    s .jobs + allEvents jobs ≤ 9 * s .jobs
 nine jobs₀ s jobs h l g r = omega (arith, l, all-few (s .jobs) jobs r (g .each))
 
 -- a job that is placed has run at most three times before
@@ -80,7 +78,12 @@ few-runs jobs ks o l =
     (InState Placed jobs)
     (ToStart jobs)
     ks
-    (λ k q. (q .0, q .1, let r : jobAt jobs k .run ≡ jobAt jobs k .evictions + 0 = o k .run-is ∙ ap (λ (st : JobState). jobAt jobs k .evictions + begun st) (q .1) in omega (arith, r, o k .few)))
+    (λ k q. (
+      q .0,
+      q .1,
+      let r : jobAt jobs k .run ≡ jobAt jobs k .evictions + 0 = o k .run-is
+          ∙ ap (λ (st : JobState). jobAt jobs k .evictions + begun st) (q .1) in omega (arith, r, o k .few),
+    ))
     l
 
 -- the sums of timeouts agree where the asks do
@@ -111,9 +114,14 @@ passed jobs₀ k h m a =
     let c : ℕ = m .log .count in
     record {
       standing = pass-standing (p .setting) (p .clock) (p .gpus) (p .jobs) line (a .between .gpus) (a .between .good .size) sized refl;
-      good = pass-keeps (p .setting) (p .clock) (p .gpus) (p .jobs) line (a .between .gpus) (a .between .good .size) sized refl (PassGood (p .setting) jobs₀ h c) (pass-good (p .setting) (p .clock) jobs₀ h c (a .own)) (record { good = a .between .good; told = omega arith });
-      owed = pass-keeps (p .setting) (p .clock) (p .gpus) (p .jobs) line (a .between .gpus) (a .between .good .size) sized refl (PassOwed (p .setting .jobs) (allEvents (p .jobs)) jobs₀) (pass-owed (p .setting) (p .clock) (p .setting .jobs) (allEvents (p .jobs)) jobs₀) (record { asks = a .between .good .asks; rest = a .between .rest; owed = omega arith });
-      came-same = pass-keeps (p .setting) (p .clock) (p .gpus) (p .jobs) line (a .between .gpus) (a .between .good .size) sized refl (λ q. Came (p .jobs) (q .jobs)) (pass-came (p .setting) (p .clock) (p .jobs)) (λ i. refl);
+      good = pass-keeps (p .setting) (p .clock) (p .gpus) (p .jobs) line (a .between .gpus) (a .between .good .size) sized refl
+          (PassGood (p .setting) jobs₀ h c) (pass-good (p .setting) (p .clock) jobs₀ h c (a .own)) (record { good = a .between .good; told = omega arith });
+      owed = pass-keeps (p .setting) (p .clock) (p .gpus) (p .jobs) line (a .between .gpus) (a .between .good .size) sized refl
+          (PassOwed (p .setting .jobs) (allEvents (p .jobs)) jobs₀)
+          (pass-owed (p .setting) (p .clock) (p .setting .jobs) (allEvents (p .jobs)) jobs₀)
+          (record { asks = a .between .good .asks; rest = a .between .rest; owed = omega arith });
+      came-same = pass-keeps (p .setting) (p .clock) (p .gpus) (p .jobs) line (a .between .gpus) (a .between .good .size) sized refl
+          (λ q. Came (p .jobs) (q .jobs)) (pass-came (p .setting) (p .clock) (p .jobs)) (λ i. refl);
     }
 
 -- ---- the timeouts and the starts
@@ -127,7 +135,8 @@ record Begun-so (jobs₀ : List Job) (k : ℕ) (h : List Decision) (p : Plan) (b
   fewer : (i : ℕ) → arriving i (b .ahead .events) ≤ arriving i (p .events)
   came-same : Came (p .jobs) (b .jobs)
 
-begun-so : (jobs₀ : List Job) (k : ℕ) (h : List Decision) → 1 ≤ k → (m : Moment) (a : Amid jobs₀ k h m) (q : Pass) → Passed jobs₀ h (m .log .count) (m .plan) q → Begun-so jobs₀ k h (m .plan) (startsOf (m .plan) q)
+begun-so : (jobs₀ : List Job) (k : ℕ) (h : List Decision) → 1 ≤ k → (m : Moment) (a : Amid jobs₀ k h m) (q : Pass) →
+    Passed jobs₀ h (m .log .count) (m .plan) q → Begun-so jobs₀ k h (m .plan) (startsOf (m .plan) q)
 unfolding startsOf
 begun-so jobs₀ k h one m a q w =
     let p : Plan = m .plan in
@@ -140,14 +149,21 @@ begun-so jobs₀ k h one m a q w =
     let b : Begun = record { jobs = q .jobs; ahead = a1; totals = q .line .totals; log = q .line .log } in
     let t : sumOver (timedOne (q .jobs)) vs ≡ sumOver (timedOne jobs₀) vs = timed-same jobs₀ (q .jobs) vs (w .owed .asks) in
     let n9 : s .jobs + allEvents (q .jobs) ≤ 9 * s .jobs = nine jobs₀ s (q .jobs) (h ++ decisions (q .line .log)) (a .between .loaded) (w .good .good) (w .owed .rest) in
-    let g1 : Grown k (sumOver (timedOne (q .jobs)) vs) a0 a1 = timeouts-grown k (p .clock) (q .jobs) a0 vs one (omega (arith, t, n9, w .owed .owed, a .between .given, a .between .loaded)) (record { size = a .between .counted .size; count = a .between .counted .count }) in
+    let g1 : Grown k (sumOver (timedOne (q .jobs)) vs) a0 a1 =
+    timeouts-grown k (p .clock) (q .jobs) a0 vs one (omega (arith, t, n9, w .owed .owed, a .between .given, a .between .loaded))
+    (record { size = a .between .counted .size; count = a .between .counted .count }) in
     let l : length ps ≡ q .count = sym (length-map ps (λ x. x .job)) ∙ so .count in
     let d : Distinct (jobsOf ps) = distinct-right vs (placedOf q) (so .once) in
     let room : Room b (length ps) = record { table = so .line .log; fits = omega (arith, l, w .good .told, a .own, few q so) } in
-    let good : Good s jobs₀ (begunAll (s .options) (p .clock) b ps .jobs) (h ++ decisions (begunAll (s .options) (p .clock) b ps .log)) = starts-good s (s .options) (p .clock) jobs₀ h b ps room d (so .placed-are) (w .good .good) in
-    let o : (allEvents (begunAll (s .options) (p .clock) b ps .jobs) ≡ allEvents (q .jobs) + length ps) × Rest (s .jobs) (begunAll (s .options) (p .clock) b ps .jobs) = starts-owed (s .options) (p .clock) (s .jobs) b ps (so .jobs) (w .owed .rest) d (few-runs (q .jobs) (jobsOf ps) (w .good .good .each) (so .placed-are)) in
-    let m9 : s .jobs + allEvents (begunAll (s .options) (p .clock) b ps .jobs) ≤ 9 * s .jobs = nine jobs₀ s (begunAll (s .options) (p .clock) b ps .jobs) (h ++ decisions (begunAll (s .options) (p .clock) b ps .log)) (a .between .loaded) good (o .1) in
-    let g2 : Grown k (length ps) a1 (begunAll (s .options) (p .clock) b ps .ahead) = starts-grown k (s .options) (p .clock) b ps one (omega (arith, g1 .next, t, m9, o .0, w .owed .owed, a .between .given, a .between .loaded)) (g1 .counted) in
+    let good : Good s jobs₀ (begunAll (s .options) (p .clock) b ps .jobs) (h ++ decisions (begunAll (s .options) (p .clock) b ps .log)) =
+    starts-good s (s .options) (p .clock) jobs₀ h b ps room d (so .placed-are) (w .good .good) in
+    let o : (allEvents (begunAll (s .options) (p .clock) b ps .jobs) ≡ allEvents (q .jobs) + length ps) × Rest (s .jobs)
+    (begunAll (s .options) (p .clock) b ps .jobs) =
+    starts-owed (s .options) (p .clock) (s .jobs) b ps (so .jobs) (w .owed .rest) d (few-runs (q .jobs) (jobsOf ps) (w .good .good .each) (so .placed-are)) in
+    let m9 : s .jobs + allEvents (begunAll (s .options) (p .clock) b ps .jobs) ≤ 9 * s .jobs =
+    nine jobs₀ s (begunAll (s .options) (p .clock) b ps .jobs) (h ++ decisions (begunAll (s .options) (p .clock) b ps .log)) (a .between .loaded) good (o .1) in
+    let g2 : Grown k (length ps) a1 (begunAll (s .options) (p .clock) b ps .ahead) =
+    starts-grown k (s .options) (p .clock) b ps one (omega (arith, g1 .next, t, m9, o .0, w .owed .owed, a .between .given, a .between .loaded)) (g1 .counted) in
     record {
       good = good;
       rest = o .1;
@@ -158,7 +174,8 @@ begun-so jobs₀ k h one m a q w =
     }
 
 -- what follows an event keeps it
-pub settled-between : (jobs₀ : List Job) (k : ℕ) (h : List Decision) → 1 ≤ k → (m : Moment) → Amid jobs₀ k h m → Between jobs₀ k (h ++ decisions (settled m .log)) (settled m .plan)
+pub settled-between : (jobs₀ : List Job) (k : ℕ) (h : List Decision) → 1 ≤ k → (m : Moment) → Amid jobs₀ k h m →
+    Between jobs₀ k (h ++ decisions (settled m .log)) (settled m .plan)
 unfolding settled withPass
 settled-between jobs₀ k h one m a =
     let p : Plan = m .plan in
@@ -174,6 +191,7 @@ settled-between jobs₀ k h one m a =
       rest = b .rest;
       counted = record { size = b .counted .size; count = b .counted .count };
       given = b .given;
-      pends = λ i. let c : came (jobAt (startsOf p q .jobs) i .state) ≡ came (jobAt (p .jobs) i .state) = b .came-same i in omega (arith, a .between .pends i, b .fewer i, c);
+      pends = λ i. let c : came (jobAt (startsOf p q .jobs) i .state) ≡ came (jobAt (p .jobs) i .state) =
+          b .came-same i in omega (arith, a .between .pends i, b .fewer i, c);
       inside = λ i n. omega (arith, a .between .inside i n, b .fewer i);
     }

@@ -54,7 +54,8 @@ bit-one false h = absurd (omega arith)
 -- what weighs something is that
 pub end-is : (j g : ℕ) (e : Event) → 0 < endOne j g e → EndOf j g e
 end-is j g e h =
-    let a : (isCompletion (e .kind) ≡ true) × (eqb (e .job) j && eqb (e .generation) g ≡ true) = and-both (isCompletion (e .kind)) (eqb (e .job) j && eqb (e .generation) g) (bit-one _ h) in
+    let a : (isCompletion (e .kind) ≡ true) × (eqb (e .job) j && eqb (e .generation) g ≡ true) =
+    and-both (isCompletion (e .kind)) (eqb (e .job) j && eqb (e .generation) g) (bit-one _ h) in
     let b : (eqb (e .job) j ≡ true) × (eqb (e .generation) g ≡ true) = and-both (eqb (e .job) j) (eqb (e .generation) g) (a .1) in
     record { kind = completion-only (e .kind) (a .0); job = eqb-true (e .job) j (b .0); generation = eqb-true (e .generation) g (b .1) }
 
@@ -119,7 +120,8 @@ module _ (events : List Event) (size : length events ≡ 1152) where
     pub added-end : (j g : ℕ) (e : Event) → endOne j g e ≡ 1 → completionsOf j g (added events e) ≡ completionsOf j g events + 1
     unfolding added
     added-end j g e o =
-        let s : sumOver (endOne j g) (set events (firstFree events) e) + endOne j g (eventAt events (firstFree events)) ≡ sumOver (endOne j g) events + endOne j g e = sum-set (endOne j g) events (firstFree events) e emptyEvent (omega (arith, free-entry events size room)) in
+        let s : sumOver (endOne j g) (set events (firstFree events) e) + endOne j g (eventAt events (firstFree events)) ≡ sumOver (endOne j g) events
+        + endOne j g e = sum-set (endOne j g) events (firstFree events) e emptyEvent (omega (arith, free-entry events size room)) in
         omega (arith, s, o, free-weighs j g (eventAt events (firstFree events)) free-unused .0)
 
     -- and stands in the room
@@ -131,7 +133,8 @@ module _ (events : List Event) (size : length events ≡ 1152) where
   pub taken-end : (i j g : ℕ) → i < 1152 → completionsOf j g (taken events i) + endOne j g (eventAt events i) ≡ completionsOf j g events
   unfolding taken
   taken-end i j g b =
-      let s : sumOver (endOne j g) (set events i emptyEvent) + endOne j g (eventAt events i) ≡ sumOver (endOne j g) events + endOne j g emptyEvent = sum-set (endOne j g) events i emptyEvent emptyEvent (omega arith) in
+      let s : sumOver (endOne j g) (set events i emptyEvent) + endOne j g (eventAt events i) ≡ sumOver (endOne j g) events + endOne j g emptyEvent =
+      sum-set (endOne j g) events i emptyEvent emptyEvent (omega arith) in
       omega (arith, s, free-weighs j g emptyEvent refl .0)
 
   -- the others stay
@@ -148,7 +151,8 @@ module _ (events : List Event) (size : length events ≡ 1152) where
       (λ n.
       let l : i < 1152 = used-inside events size i (end-used j g (eventAt events i) a) in
       let m : k < 1152 = used-inside events size k (end-used j g (eventAt events k) b) in
-      let s : endOne j g (eventAt (taken events i) k) ≤ completionsOf j g (taken events i) = sum-at (endOne j g) (taken events i) k emptyEvent (omega (arith, m, size, length-set events i emptyEvent)) in
+      let s : endOne j g (eventAt (taken events i) k) ≤ completionsOf j g (taken events i) =
+      sum-at (endOne j g) (taken events i) k emptyEvent (omega (arith, m, size, length-set events i emptyEvent)) in
       let w : endOne j g (eventAt (taken events i) k) ≡ 1 = ap (endOne j g) (taken-stays i k n) ∙ end-weighs j g (eventAt events k) b in
       absurd (omega (arith, one, s, w, taken-end i j g l, end-weighs j g (eventAt events i) a)))
       (eq-or-ne k i)

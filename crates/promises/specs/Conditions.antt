@@ -1,12 +1,11 @@
 -- The customer's conditions, over any number of accepted steps from the load of any trace.
-use mathlib.Core.Path.{_≡_, refl, sym, ap, subst, _∙_}
+use mathlib.Core.Path.{_≡_, refl, ap, _∙_}
 use mathlib.Core.Logic.{_⊎_}
 use mathlib.Core.Bool.{true}
 use mathlib.Core.List.{List, [], _∷_, _++_}
-use Prim.Native.Nat.{ℕ, zero, suc, _+_, _*_, _≤_, _<_, min}
+use Prim.Native.Nat.{ℕ, _+_, _*_, _≤_, _<_, min}
 use native.Mathlib.Omega.{arith}
-use lib.ListN.{length, take, getD}
-use lib.Seq.{take-append-seam}
+use lib.ListN.{length, take}
 use Rattle.laws.specs.Lists.{All, all-middle}
 use Rattle.model.specs.declared.plan.Plan.{Plan}
 use Rattle.log.specs.Log.{decisions}
@@ -17,10 +16,9 @@ use Rattle.resource.specs.Quota.{keptQuota}
 use Rattle.engine.specs.Advance.{advanced}
 use Rattle.planner.specs.Step.{stepped, numberOf}
 use Rattle.planner.specs.StepLaws.{accepted-for, accepted-plan}
-use Rattle.history.specs.Told.{isEvicted, isStarted, evictionsOf, startsOf, heldAfter}
-use Rattle.history.specs.Good.{jobAt, Fits, Own, Now, Good}
+use Rattle.history.specs.Told.{isEvicted, evictionsOf, startsOf, heldAfter}
+use Rattle.history.specs.Good.{jobAt, Fits, Own, Now}
 use Rattle.history.specs.Entries.{inUse}
-use Rattle.history.specs.Owed.{allEvents}
 use Rattle.promises.specs.LoadedLaws.{load-ready}
 use Rattle.promises.specs.Between.{Between, nine}
 use Rattle.promises.specs.Steps.{step-between, setting-stays}
@@ -29,7 +27,8 @@ use Rattle.promises.specs.LoadedBetween.{loaded-between}
 -- The plan and the decisions after k accepted steps from the load of a trace, whatever buffers are lent; refused steps change nothing and are not counted.
 pub data Reached (trace : List ℕ) : ℕ → Plan → List Decision → Type 0 where
   begin : load trace .answer ≡ Accepted → Reached trace 0 (load trace .plan) []
-  onward : {k : ℕ} {p : Plan} {h : List Decision} → Reached trace k p h → (buffer : List ℕ) → numberOf (stepped p (length buffer) .answer) ≡ 0 → Reached trace (k + 1) (stepped p (length buffer) .plan) (h ++ decisions (advanced p .log))
+  onward : {k : ℕ} {p : Plan} {h : List Decision} → Reached trace k p h → (buffer : List ℕ) → numberOf (stepped p (length buffer) .answer) ≡ 0 →
+      Reached trace (k + 1) (stepped p (length buffer) .plan) (h ++ decisions (advanced p .log))
 
 module _ (trace : List ℕ) where
   -- the plan as loaded
@@ -72,7 +71,8 @@ module _ (trace : List ℕ) where
         omega (arith, n, kept .given, nine (first .jobs) (p .setting) (p .jobs) h (kept .loaded) (kept .good) (kept .rest))
 
     -- Condition 3 (a): at every point of the history, what a tenant's running jobs hold, summed from the decisions, is within its quota. A tenant is its number plus 1; a quota is kept plus 1, 0 for none.
-    pub quota-kept : (tenant : ℕ) → 0 < tenant → (m : ℕ) → Fits (keptQuota (first .setting) tenant) (heldAfter (first .jobs) (min (first .setting .jobs) 128) tenant (take m h))
+    pub quota-kept : (tenant : ℕ) → 0 < tenant → (m : ℕ) →
+        Fits (keptQuota (first .setting) tenant) (heldAfter (first .jobs) (min (first .setting .jobs) 128) tenant (take m h))
     quota-kept tenant z m = now-at m .quota tenant z
 
     -- (b): no job is evicted more than three times.
@@ -84,7 +84,9 @@ module _ (trace : List ℕ) where
     fourth-run job m e = omega (arith, e, now-at m .three job, now-at m .runs-few job)
 
     -- (d): with quota-aware preemption on, a job is evicted only for a job of its own tenant or of none.
-    pub own-tenant : (before after : List Decision) (d : Decision) → h ≡ before ++ (d ∷ after) → isEvicted (d .kind) ≡ true → first .setting .options .aware ≡ true → (jobAt (first .jobs) (d .other) .ask .tenant ≡ 0) ⊎ (jobAt (first .jobs) (d .job) .ask .tenant ≡ jobAt (first .jobs) (d .other) .ask .tenant)
+    pub own-tenant : (before after : List Decision) (d : Decision) → h ≡ before ++ (d ∷ after) → isEvicted (d .kind) ≡ true →
+        first .setting .options .aware ≡ true → (jobAt (first .jobs) (d .other) .ask .tenant ≡ 0) ⊎
+        (jobAt (first .jobs) (d .job) .ask .tenant ≡ jobAt (first .jobs) (d .other) .ask .tenant)
     own-tenant before after d e t a =
         let o : All (Own (first .setting) (first .jobs)) (before ++ (d ∷ after)) = rw (← e, ← reached-between k p h r .1) (kept .good .own) in
         all-middle (Own (first .setting) (first .jobs)) before d after o t a

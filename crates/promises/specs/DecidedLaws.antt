@@ -21,7 +21,8 @@ use Rattle.loader.specs.declared.tables.Tables.{Tables}
 
 -- ---- one turn
 
-turn-on : (trace : List ℕ) (at k : ℕ) (r : Record) (t : Tables) → recordRead (drop at trace) ≡ whole r k → isEnd r ≡ false → faultOf (t .setting) (t .told) at r ≡ Accepted → turn trace at t ≡ turnOn (at + k) (putRecord t r)
+turn-on : (trace : List ℕ) (at k : ℕ) (r : Record) (t : Tables) → recordRead (drop at trace) ≡ whole r k → isEnd r ≡ false →
+    faultOf (t .setting) (t .told) at r ≡ Accepted → turn trace at t ≡ turnOn (at + k) (putRecord t r)
 unfolding turn follow
 turn-on trace at k r t e g f = rw (e, g, f)
 
@@ -62,18 +63,24 @@ left-over : (n l m : ℕ) → m ≡ l + 1 → l < n → n - l ≡ suc (n - m)
 left-over n l m e h = omega arith
 
 -- a place that is reached is reached by the load
-reached-turns : {trace : List ℕ} {rs : List Record} {at : ℕ} {t : Tables} → Reached trace rs at t → turns (length trace) trace 0 emptyTables ≡ turns (length trace - length rs) trace at t
+reached-turns : {trace : List ℕ} {rs : List Record} {at : ℕ} {t : Tables} → Reached trace rs at t →
+    turns (length trace) trace 0 emptyTables ≡ turns (length trace - length rs) trace at t
 reached-turns {trace} begin = nothing (length trace) trace
   where
     nothing : (n : ℕ) (trace : List ℕ) → turns n trace 0 emptyTables ≡ turns (n - 0) trace 0 emptyTables
     nothing n trace = let e : n - 0 ≡ n = omega arith in rw e
 reached-turns {trace} (onward {rs} {at} {t} w r k e g f) =
-    one-more trace rs at t r k (reached-turns w) (reached-count w) (takes-some (drop at trace) r k e) (takes-inside trace at r k e (reached-inside w)) (turn-on trace at k r t e g f)
+    one-more trace rs at t r k (reached-turns w) (reached-count w) (takes-some (drop at trace) r k e)
+    (takes-inside trace at r k e (reached-inside w)) (turn-on trace at k r t e g f)
   where
-    one-more : (trace : List ℕ) (rs : List Record) (at : ℕ) (t : Tables) (r : Record) (k : ℕ) → turns (length trace) trace 0 emptyTables ≡ turns (length trace - length rs) trace at t → length rs ≤ at → 1 ≤ k → at + k ≤ length trace → turn trace at t ≡ turnOn (at + k) (putRecord t r) → turns (length trace) trace 0 emptyTables ≡ turns (length trace - length (rs ++ (r ∷ []))) trace (at + k) (putRecord t r)
+    one-more : (trace : List ℕ) (rs : List Record) (at : ℕ) (t : Tables) (r : Record) (k : ℕ) →
+        turns (length trace) trace 0 emptyTables ≡ turns (length trace - length rs) trace at t → length rs ≤ at → 1 ≤ k → at + k ≤ length trace →
+        turn trace at t ≡ turnOn (at + k) (putRecord t r) →
+        turns (length trace) trace 0 emptyTables ≡ turns (length trace - length (rs ++ (r ∷ []))) trace (at + k) (putRecord t r)
     one-more trace rs at t r k i c o s u =
         let l : length rs < length trace = omega (arith, c, o, s) in
-        let n : length trace - length rs ≡ suc (length trace - length (rs ++ (r ∷ []))) = left-over (length trace) (length rs) (length (rs ++ (r ∷ []))) (length-append rs (r ∷ [])) l in
+        let n : length trace - length rs ≡ suc (length trace - length (rs ++ (r ∷ []))) =
+        left-over (length trace) (length rs) (length (rs ++ (r ∷ []))) (length-append rs (r ∷ [])) l in
         let q : turns (length trace) trace 0 emptyTables ≡ turns (suc (length trace - length (rs ++ (r ∷ [])))) trace at t = rw n at i in
         q ∙ turns-step (length trace - length (rs ++ (r ∷ []))) trace at t (at + k) (putRecord t r) u
 
@@ -92,7 +99,8 @@ stopped-end {trace} {at} {t} {a} h q = by-way q
     x = rw d record-none
 
     never : (r : Record) (k : ℕ) → recordRead (drop at trace) ≡ whole r k → ⊥
-    never r k e = let y : recordRead (drop at trace) .answer ≡ Accepted = rw e in let v : EndsEarly 0 ≡ Accepted = sym x ∙ y in let z : _≡_ {A = ℕ} 0 1 = cc in omega arith
+    never r k e = let y : recordRead (drop at trace) .answer ≡ Accepted = rw e in let v : EndsEarly 0 ≡ Accepted = sym x
+        ∙ y in let z : _≡_ {A = ℕ} 0 1 = cc in omega arith
 
     by-way : {b : Answer} → Stopped trace at t b → refused (EndsEarly (length trace)) ≡ refused b
     by-way (unread f) = rw (x, h)
@@ -100,18 +108,22 @@ stopped-end {trace} {at} {t} {a} h q = by-way q
     by-way (after k e g) = absurd (never R.End k e)
 
 -- a refusal behind records without fault is the load's
-pub stopped-load : {trace : List ℕ} {rs : List Record} {at : ℕ} {t : Tables} {a : Answer} → Reached trace rs at t → Stopped trace at t a → length trace ≤ Sizes.traceBytes → load trace ≡ refused a
+pub stopped-load : {trace : List ℕ} {rs : List Record} {at : ℕ} {t : Tables} {a : Answer} → Reached trace rs at t → Stopped trace at t a →
+    length trace ≤ Sizes.traceBytes → load trace ≡ refused a
 unfolding turns
 stopped-load {trace} {rs} {at} {t} {a} w q h = load-turns trace h ∙ by-left (length trace - length rs) refl (reached-turns w)
   where
-    by-left : (m : ℕ) → length trace - length rs ≡ m → turns (length trace) trace 0 emptyTables ≡ turns m trace at t → turns (length trace) trace 0 emptyTables ≡ refused a
+    by-left : (m : ℕ) → length trace - length rs ≡ m → turns (length trace) trace 0 emptyTables ≡ turns m trace at t →
+        turns (length trace) trace 0 emptyTables ≡ refused a
     by-left zero n i = i ∙ stopped-end (omega (arith, n, reached-count w, reached-inside w)) q
     by-left (suc m) n i = i ∙ turns-stop m trace at t a (stopped-refuses q) (turn-stopped q)
 
 -- records without fault up to the end record at the trace's end are loaded
-pub done-load : {trace : List ℕ} {rs : List Record} {at : ℕ} {t : Tables} → Reached trace rs at t → (k : ℕ) → recordRead (drop at trace) ≡ whole R.End k → at + k ≡ length trace → length trace ≤ Sizes.traceBytes → load trace ≡ record { answer = Accepted; plan = planOf t }
+pub done-load : {trace : List ℕ} {rs : List Record} {at : ℕ} {t : Tables} → Reached trace rs at t → (k : ℕ) →
+    recordRead (drop at trace) ≡ whole R.End k → at + k ≡ length trace → length trace ≤ Sizes.traceBytes → load trace ≡ record { answer = Accepted; plan = planOf t }
 done-load {trace} {rs} {at} {t} w k e x h = load-turns trace h ∙ by-left (length trace - length rs) refl (reached-turns w)
   where
-    by-left : (m : ℕ) → length trace - length rs ≡ m → turns (length trace) trace 0 emptyTables ≡ turns m trace at t → turns (length trace) trace 0 emptyTables ≡ record { answer = Accepted; plan = planOf t }
+    by-left : (m : ℕ) → length trace - length rs ≡ m → turns (length trace) trace 0 emptyTables ≡ turns m trace at t →
+        turns (length trace) trace 0 emptyTables ≡ record { answer = Accepted; plan = planOf t }
     by-left zero n i = absurd (omega (arith, n, x, reached-count w, takes-some (drop at trace) R.End k e))
     by-left (suc m) n i = i ∙ turns-done m trace at t (turn-done trace at k t e x)

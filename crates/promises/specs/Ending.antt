@@ -61,13 +61,15 @@ module _ (before jobs : List Job) (quiet : Quiet before jobs) (events : List Eve
       }
 
   -- an event is taken that is no completion of a run that goes on
-  pub ending-taken : (i : ℕ) → length events ≡ 1152 → i < 1152 → ((j : ℕ) → jobAt jobs j .state ≡ Running → endOne j (jobAt before j .run) (eventAt events i) ≡ 0) → Ending jobs (taken events i)
+  pub ending-taken : (i : ℕ) → length events ≡ 1152 → i < 1152 →
+      ((j : ℕ) → jobAt jobs j .state ≡ Running → endOne j (jobAt before j .run) (eventAt events i) ≡ 0) → Ending jobs (taken events i)
   ending-taken i size b none =
       record {
         later = λ j g l. omega (arith, e .later j g (omega (arith, l, quiet j .0)), taken-end events size i j g b);
         own =
             λ j st.
-            let c : completionsOf j (jobAt jobs j .run) (taken events i) ≡ completionsOf j (jobAt before j .run) (taken events i) = ap (λ (r : ℕ). completionsOf j r (taken events i)) (quiet j .0) in
+            let c : completionsOf j (jobAt jobs j .run) (taken events i) ≡ completionsOf j (jobAt before j .run) (taken events i) =
+            ap (λ (r : ℕ). completionsOf j r (taken events i)) (quiet j .0) in
             omega (arith, c, none j st, e .own j (quiet j .1 st), taken-end events size i j (jobAt before j .run) b);
       }
 
@@ -77,12 +79,14 @@ unfolding Life.evicted Life.placed
 quiet-pass clock jobs p c k =
     split
     (has k (victimsOf (p .line)))
-    (λ v. let x : (jobAt jobs k .state ≡ Running) × (jobAt (p .jobs) k ≡ Life.evicted (jobAt jobs k) clock) = has-all (λ i. (jobAt jobs i .state ≡ Running) × (jobAt (p .jobs) i ≡ Life.evicted (jobAt jobs i) clock)) k (victimsOf (p .line)) (c .evicted) v in
+    (λ v. let x : (jobAt jobs k .state ≡ Running) × (jobAt (p .jobs) k ≡ Life.evicted (jobAt jobs k) clock) =
+    has-all (λ i. (jobAt jobs i .state ≡ Running) × (jobAt (p .jobs) i ≡ Life.evicted (jobAt jobs i) clock)) k (victimsOf (p .line)) (c .evicted) v in
     (ap (λ (y : Job). y .run) (x .1), λ s. x .0))
     (λ v.
     split
     (has k (placedOf p))
-    (λ w. let x : (jobAt jobs k .state ≡ Waiting) × (jobAt (p .jobs) k ≡ Life.placed (jobAt jobs k)) = has-all (λ i. (jobAt jobs i .state ≡ Waiting) × (jobAt (p .jobs) i ≡ Life.placed (jobAt jobs i))) k (placedOf p) (c .placed) w in
+    (λ w. let x : (jobAt jobs k .state ≡ Waiting) × (jobAt (p .jobs) k ≡ Life.placed (jobAt jobs k)) =
+    has-all (λ i. (jobAt jobs i .state ≡ Waiting) × (jobAt (p .jobs) i ≡ Life.placed (jobAt jobs i))) k (placedOf p) (c .placed) w in
     (ap (λ (y : Job). y .run) (x .1), λ s. absurd (never-both (ap runs s) (ap (λ (y : Job). runs (y .state)) (x .1)))))
     (λ w. let x : jobAt (p .jobs) k ≡ jobAt jobs k = c .others k v w in
     (ap (λ (y : Job). y .run) x, λ s. ap (λ (y : Job). y .state) (sym x) ∙ s)))
@@ -132,7 +136,8 @@ timeout-beside events a id x from b =
     record { wider = wider-added events (a .events) e (b .wider); same = λ j g. added-other (a .events) (b .wider .size) j g e (other-kind j g e refl) ∙ b .same j g })
     b
 
-pub timeouts-beside : (clock : Float) (jobs : List Job) (a : Ahead) (vs : List ℕ) → length (a .events) ≡ 1152 → Beside (a .events) (timeoutsQueued clock jobs a vs .events)
+pub timeouts-beside : (clock : Float) (jobs : List Job) (a : Ahead) (vs : List ℕ) → length (a .events) ≡ 1152 →
+    Beside (a .events) (timeoutsQueued clock jobs a vs .events)
 timeouts-beside clock jobs a vs s =
     timeouts-keep clock jobs (λ x. Beside (a .events) (x .events)) (λ x v b. timeout-beside (a .events) x v (jobAt jobs v) clock b) a vs (beside-none (a .events) s)
 
@@ -141,9 +146,12 @@ timeouts-beside clock jobs a vs s =
 module _ (options : Options) (clock : Float) where
   pub starts-wider : (b : Begun) (ps : List Placing) → length (b .ahead .events) ≡ 1152 → Wider (b .ahead .events) (begunAll options clock b ps .ahead .events)
   starts-wider b ps s =
-      all-keep options clock (λ x. Wider (b .ahead .events) (x .ahead .events)) (λ x p w. rw (begun-events options clock x p) (wider-added (b .ahead .events) (x .ahead .events) (completionOf options clock x p) w)) b ps (wider-none (b .ahead .events) s)
+      all-keep options clock (λ x. Wider (b .ahead .events) (x .ahead .events))
+      (λ x p w. rw (begun-events options clock x p) (wider-added (b .ahead .events) (x .ahead .events) (completionOf options clock x p) w)) b ps
+      (wider-none (b .ahead .events) s)
 
-  module _ (b : Begun) (p : Placing) (inside : p .job < length (b .jobs)) (small : jobOf b p .run < 9) (size : length (b .ahead .events) ≡ 1152) (room : inUse (b .ahead .events) < 1152) (e : Ending (b .jobs) (b .ahead .events)) where
+  module _ (b : Begun) (p : Placing) (inside : p .job < length (b .jobs)) (small : jobOf b p .run < 9) (size : length (b .ahead .events) ≡ 1152)
+      (room : inUse (b .ahead .events) < 1152) (e : Ending (b .jobs) (b .ahead .events)) where
     -- the run generation that begins
     raised-run : jobAt (Begin.begun options clock b p .jobs) (p .job) .run ≡ jobOf b p .run + 1
     raised-run = let m : (jobOf b p .run + 1) % 2 ^ 32 ≡ jobOf b p .run + 1 = omega (arith, small) in begun-run options clock b p inside ∙ m
@@ -152,14 +160,18 @@ module _ (options : Options) (clock : Float) where
     is-end = record { kind = refl; job = refl; generation = let m : (jobOf b p .run + 1) % 2 ^ 32 ≡ jobOf b p .run + 1 = omega (arith, small) in m }
 
     -- only the new run has one more
-    count-other : (j g : ℕ) → (EndOf j g (completionOf options clock b p) → ⊥) → completionsOf j g (Begin.begun options clock b p .ahead .events) ≡ completionsOf j g (b .ahead .events)
+    count-other : (j g : ℕ) → (EndOf j g (completionOf options clock b p) → ⊥) →
+        completionsOf j g (Begin.begun options clock b p .ahead .events) ≡ completionsOf j g (b .ahead .events)
     count-other j g n =
         rw (begun-events options clock b p) (added-other (b .ahead .events) size j g (completionOf options clock b p) (end-not j g (completionOf options clock b p) n))
 
     count-own : completionsOf (p .job) (jobOf b p .run + 1) (Begin.begun options clock b p .ahead .events) ≡ 1
     count-own =
         let z : completionsOf (p .job) (jobOf b p .run + 1) (b .ahead .events) ≡ 0 = e .later (p .job) (jobOf b p .run + 1) (omega arith) in
-        let a : completionsOf (p .job) (jobOf b p .run + 1) (added (b .ahead .events) (completionOf options clock b p)) ≡ completionsOf (p .job) (jobOf b p .run + 1) (b .ahead .events) + 1 = added-end (b .ahead .events) size room (p .job) (jobOf b p .run + 1) (completionOf options clock b p) (end-weighs (p .job) (jobOf b p .run + 1) (completionOf options clock b p) is-end) in
+        let a : completionsOf (p .job) (jobOf b p .run + 1) (added (b .ahead .events) (completionOf options clock b p)) ≡ completionsOf (p .job)
+        (jobOf b p .run + 1) (b .ahead .events) + 1 =
+        added-end (b .ahead .events) size room (p .job) (jobOf b p .run + 1) (completionOf options clock b p)
+        (end-weighs (p .job) (jobOf b p .run + 1) (completionOf options clock b p) is-end) in
         rw (begun-events options clock b p) (omega (arith, a, z))
 
     -- another job is as it was
@@ -173,13 +185,15 @@ module _ (options : Options) (clock : Float) where
         let s : j ≡ p .job = s in
         let r : jobAt (Begin.begun options clock b p .jobs) j .run ≡ jobAt (b .jobs) j .run + 1 = rw s raised-run in
         let t : jobOf b p .run ≡ jobAt (b .jobs) j .run = rw s in
-        count-other j g (λ x. let y : jobOf b p .run + 1 ≡ g = sym (is-end .generation) ∙ x .generation in omega (arith, l, r, t, y)) ∙ e .later j g (omega (arith, l, r)))
+        count-other j g (λ x. let y : jobOf b p .run + 1 ≡ g = sym (is-end .generation) ∙ x .generation in omega (arith, l, r, t, y))
+        ∙ e .later j g (omega (arith, l, r)))
         (λ n.
         let r : jobAt (Begin.begun options clock b p .jobs) j .run ≡ jobAt (b .jobs) j .run = ap (λ (x : Job). x .run) (at-other j n) in
         count-other j g (λ x. n (sym (x .job))) ∙ e .later j g (omega (arith, l, r)))
         (eq-or-ne j (p .job))
 
-    own-after : (j : ℕ) → jobAt (Begin.begun options clock b p .jobs) j .state ≡ Running → completionsOf j (jobAt (Begin.begun options clock b p .jobs) j .run) (Begin.begun options clock b p .ahead .events) ≡ 1
+    own-after : (j : ℕ) → jobAt (Begin.begun options clock b p .jobs) j .state ≡ Running →
+        completionsOf j (jobAt (Begin.begun options clock b p .jobs) j .run) (Begin.begun options clock b p .ahead .events) ≡ 1
     own-after j st =
         ⊎-elim
         (λ s. let s : j ≡ p .job = s in rw (s, raised-run) count-own)
@@ -205,11 +219,14 @@ module _ (options : Options) (clock : Float) where
       (all-both (λ k. p .job ≡ k → ⊥) (Fresh (b .jobs)) ks a l)
 
   -- all start, where there is room to the end
-  pub starts-end : (b : Begun) (ps : List Placing) → Distinct (jobsOf ps) → All (Fresh (b .jobs)) (jobsOf ps) → length (b .ahead .events) ≡ 1152 → inUse (begunAll options clock b ps .ahead .events) < 1152 → Ending (b .jobs) (b .ahead .events) → Ending (begunAll options clock b ps .jobs) (begunAll options clock b ps .ahead .events)
+  pub starts-end : (b : Begun) (ps : List Placing) → Distinct (jobsOf ps) → All (Fresh (b .jobs)) (jobsOf ps) → length (b .ahead .events) ≡ 1152 →
+      inUse (begunAll options clock b ps .ahead .events) < 1152 → Ending (b .jobs) (b .ahead .events) →
+      Ending (begunAll options clock b ps .jobs) (begunAll options clock b ps .ahead .events)
   unfolding begunAll
   starts-end b [] d l s r e = e
   starts-end b (p ∷ ps) d l s r e =
       let w : Wider (b .ahead .events) (Begin.begun options clock b p .ahead .events) = starts-wider b (p ∷ []) s in
-      let v : Wider (Begin.begun options clock b p .ahead .events) (begunAll options clock (Begin.begun options clock b p) ps .ahead .events) = starts-wider (Begin.begun options clock b p) ps (w .size) in
+      let v : Wider (Begin.begun options clock b p .ahead .events) (begunAll options clock (Begin.begun options clock b p) ps .ahead .events) =
+      starts-wider (Begin.begun options clock b p) ps (w .size) in
       starts-end (Begin.begun options clock b p) ps (d .1) (still-fresh b p (jobsOf ps) (d .0) (l .1)) (w .size) r
       (begun-ends b p (l .0 .0) (l .0 .1) s (omega (arith, w .more, v .more, r)) e)

@@ -79,7 +79,8 @@ placings q = take (q .count) (q .placed)
 abbrev pub allStarted : Plan → Pass → Begun
 allStarted p q = begunAll (p .setting .options) (p .clock) (toStart p q) (placings q)
 
-pub settled-is : (m : Moment) → (settled m .plan .jobs ≡ allStarted (m .plan) (passOf m) .jobs) × (settled m .plan .events ≡ allStarted (m .plan) (passOf m) .ahead .events) × (settled m .log ≡ allStarted (m .plan) (passOf m) .log)
+pub settled-is : (m : Moment) → (settled m .plan .jobs ≡ allStarted (m .plan) (passOf m) .jobs) ×
+    (settled m .plan .events ≡ allStarted (m .plan) (passOf m) .ahead .events) × (settled m .log ≡ allStarted (m .plan) (passOf m) .log)
 unfolding settled withPass startsOf
 settled-is m = (refl, refl, refl)
 
@@ -88,13 +89,15 @@ module _ (jobs₀ : List Job) (k : ℕ) (h : List Decision) (m : Moment) (a : Am
   unfolding passOf newLine
   changes-of =
       let p : Plan = m .plan in
-      pass-changes (p .setting) (p .clock) (p .gpus) (p .jobs) (newLine (p .queue) (p .waiting) (p .totals) (m .log) (m .ok)) (a .between .gpus) (a .between .good .size) (new-sized (p .queue) (p .waiting) (p .totals) (m .log) (m .ok) (a .between .queue) (a .table)) refl
+      pass-changes (p .setting) (p .clock) (p .gpus) (p .jobs) (newLine (p .queue) (p .waiting) (p .totals) (m .log) (m .ok)) (a .between .gpus)
+      (a .between .good .size) (new-sized (p .queue) (p .waiting) (p .totals) (m .log) (m .ok) (a .between .queue) (a .table)) refl
 
   pub standing-of : Standing (passOf m)
   unfolding passOf newLine
   standing-of =
       let p : Plan = m .plan in
-      pass-standing (p .setting) (p .clock) (p .gpus) (p .jobs) (newLine (p .queue) (p .waiting) (p .totals) (m .log) (m .ok)) (a .between .gpus) (a .between .good .size) (new-sized (p .queue) (p .waiting) (p .totals) (m .log) (m .ok) (a .between .queue) (a .table)) refl
+      pass-standing (p .setting) (p .clock) (p .gpus) (p .jobs) (newLine (p .queue) (p .waiting) (p .totals) (m .log) (m .ok)) (a .between .gpus)
+      (a .between .good .size) (new-sized (p .queue) (p .waiting) (p .totals) (m .log) (m .ok) (a .between .queue) (a .table)) refl
 
   -- those that the pass placed, apart from each other
   pub placed-once : Distinct (placedOf (passOf m))
@@ -108,14 +111,20 @@ module _ (jobs₀ : List Job) (k : ℕ) (h : List Decision) (m : Moment) (a : Am
       (Fresh (m .plan .setting .options) (m .plan .clock) (passOf m .jobs))
       (placedOf (passOf m))
       (λ i x.
-      let r : jobAt (m .plan .jobs) i .run ≡ jobAt (m .plan .jobs) i .evictions + 0 = a .between .good .each i .run-is ∙ ap (λ (st : JobState). jobAt (m .plan .jobs) i .evictions + begun st) (x .1 .0) in
-      (omega (arith, standing-of .jobs, x .0 .0), omega (arith, r, a .between .good .each i .few, quiet-pass (m .plan .clock) (m .plan .jobs) (passOf m) changes-of i .0)))
-      (all-both (InState Placed (passOf m .jobs)) (λ i. (jobAt (m .plan .jobs) i .state ≡ Waiting) × (jobAt (passOf m .jobs) i ≡ Life.placed (jobAt (m .plan .jobs) i))) (placedOf (passOf m)) (standing-of .placed-are) (changes-of .placed))
+      let r : jobAt (m .plan .jobs) i .run ≡ jobAt (m .plan .jobs) i .evictions + 0 = a .between .good .each i .run-is
+      ∙ ap (λ (st : JobState). jobAt (m .plan .jobs) i .evictions + begun st) (x .1 .0) in (
+        omega (arith, standing-of .jobs, x .0 .0),
+        omega (arith, r, a .between .good .each i .few, quiet-pass (m .plan .clock) (m .plan .jobs) (passOf m) changes-of i .0),
+      ))
+      (all-both (InState Placed (passOf m .jobs))
+      (λ i. (jobAt (m .plan .jobs) i .state ≡ Waiting) × (jobAt (passOf m .jobs) i ≡ Life.placed (jobAt (m .plan .jobs) i)))
+      (placedOf (passOf m)) (standing-of .placed-are) (changes-of .placed))
 
   -- the victims' timeouts
   pub timeouts-of : Beside (m .plan .events) (toStart (m .plan) (passOf m) .ahead .events)
   timeouts-of =
-      timeouts-beside (m .plan .clock) (passOf m .jobs) (record { events = m .plan .events; next = m .plan .next; ok = passOf m .line .ok }) (victimsOf (passOf m .line)) (a .between .counted .size)
+      timeouts-beside (m .plan .clock) (passOf m .jobs) (record { events = m .plan .events; next = m .plan .next; ok = passOf m .line .ok })
+      (victimsOf (passOf m .line)) (a .between .counted .size)
 
   module _ (one : 1 ≤ k) where
     -- there is room to the end
@@ -128,8 +137,10 @@ module _ (jobs₀ : List Job) (k : ℕ) (h : List Decision) (m : Moment) (a : Am
     pub settled-ends : Ends (m .plan) → Ends (settled m .plan)
     settled-ends e =
         rw (settled-is m .0, settled-is m .1)
-        (starts-end (m .plan .setting .options) (m .plan .clock) (toStart (m .plan) (passOf m)) (placings (passOf m)) placed-once placed-fresh (timeouts-of .wider .size) room-of
-        (ending-quiet (m .plan .jobs) (passOf m .jobs) (quiet-pass (m .plan .clock) (m .plan .jobs) (passOf m) changes-of) (m .plan .events) e (toStart (m .plan) (passOf m) .ahead .events) (timeouts-of .same)))
+        (starts-end (m .plan .setting .options) (m .plan .clock) (toStart (m .plan) (passOf m)) (placings (passOf m)) placed-once placed-fresh
+        (timeouts-of .wider .size) room-of
+        (ending-quiet (m .plan .jobs) (passOf m .jobs) (quiet-pass (m .plan .clock) (m .plan .jobs) (passOf m) changes-of) (m .plan .events) e
+        (toStart (m .plan) (passOf m) .ahead .events) (timeouts-of .same)))
 
 -- ---- what an event says
 
@@ -176,7 +187,9 @@ module _ (jobs₀ : List Job) (k : ℕ) (h : List Decision) (p : Plan) (b : Betw
         (λ j s. end-not j (jobAt (p .jobs) j .run) (nextEvent p)
         (λ x.
         let r : jobAt (withEvent p .jobs) (nextEvent p .job) ≡ jobAt (p .jobs) j = rw (same-jobs, x .job) in
-        never-both (both-and (runs (jobAt (withEvent p .jobs) (nextEvent p .job) .state)) (eqb (jobAt (withEvent p .jobs) (nextEvent p .job) .run) (nextEvent p .generation)) (rw (r, s)) (eq-eqb (jobAt (withEvent p .jobs) (nextEvent p .job) .run) (nextEvent p .generation) (rw r (sym (x .generation))))) f))
+        never-both (both-and (runs (jobAt (withEvent p .jobs) (nextEvent p .job) .state))
+        (eqb (jobAt (withEvent p .jobs) (nextEvent p .job) .run) (nextEvent p .generation)) (rw (r, s))
+        (eq-eqb (jobAt (withEvent p .jobs) (nextEvent p .job) .run) (nextEvent p .generation) (rw r (sym (x .generation))))) f))
 
     -- the completion of a run
     run-end : nextEvent p .job < 128 → Ends (completes (withEvent p) (nextEvent p .job) .plan)
@@ -184,7 +197,8 @@ module _ (jobs₀ : List Job) (k : ℕ) (h : List Decision) (p : Plan) (b : Betw
     run-end small =
         let id : ℕ = nextEvent p .job in
         let x : Job = Life.ends (jobAt (p .jobs) id) in
-        ending-taken (p .jobs) (set (p .jobs) id x) (quiet-set (p .jobs) id x refl (λ st. absurd (never-both (ap runs st) refl))) (p .events) e (least (p .events)) (b .counted .size) next-inside
+        ending-taken (p .jobs) (set (p .jobs) id x) (quiet-set (p .jobs) id x refl (λ st. absurd (never-both (ap runs st) refl))) (p .events) e
+        (least (p .events)) (b .counted .size) next-inside
         (λ j s. end-not j (jobAt (p .jobs) j .run) (nextEvent p)
         (λ y.
         let t : jobAt (set (p .jobs) id x) j ≡ x = rw (← y .job) (getD-set-same (p .jobs) id x noJob (omega (arith, small, b .good .size))) in
@@ -201,8 +215,12 @@ module _ (jobs₀ : List Job) (k : ℕ) (h : List Decision) (p : Plan) (b : Betw
         (completes (withEvent p) (nextEvent p .job))
         (stale (withEvent p))
         (λ t.
-        let st : jobAt (withEvent p .jobs) (nextEvent p .job) .state ≡ Running = runs-only (jobAt (withEvent p .jobs) (nextEvent p .job) .state) (and-both (runs (jobAt (withEvent p .jobs) (nextEvent p .job) .state)) (eqb (jobAt (withEvent p .jobs) (nextEvent p .job) .run) (nextEvent p .generation)) t .0) in
-        run-end (in-table (withEvent p .jobs) (nextEvent p .job) (rw same-jobs (b .good .size)) (arrived-not (jobAt (withEvent p .jobs) (nextEvent p .job) .state) (ap came st))))
+        let st : jobAt (withEvent p .jobs) (nextEvent p .job) .state ≡ Running =
+        runs-only (jobAt (withEvent p .jobs) (nextEvent p .job) .state)
+        (and-both (runs (jobAt (withEvent p .jobs) (nextEvent p .job) .state))
+        (eqb (jobAt (withEvent p .jobs) (nextEvent p .job) .run) (nextEvent p .generation)) t .0) in
+        run-end (in-table (withEvent p .jobs) (nextEvent p .job) (rw same-jobs (b .good .size))
+        (arrived-not (jobAt (withEvent p .jobs) (nextEvent p .job) .state) (ap came st))))
         (λ f. stale-ends (withEvent p) (stale-end f))
     kind-ends Timeout q =
         pick-either
@@ -218,7 +236,8 @@ module _ (jobs₀ : List Job) (k : ℕ) (h : List Decision) (p : Plan) (b : Betw
     unfolding advanced
     step-ends =
         let m : Moment = happened (withEvent p) (nextEvent p) in
-        pick-either (λ (x : Moment). Ends (x .plan)) (m .goes) (settled m) m (settled-ends jobs₀ (k + 1) h m (happened-amid jobs₀ k h p b has) (omega arith) (kind-ends (nextEvent p .kind) refl)) (kind-ends (nextEvent p .kind) refl)
+        pick-either (λ (x : Moment). Ends (x .plan)) (m .goes) (settled m) m
+        (settled-ends jobs₀ (k + 1) h m (happened-amid jobs₀ k h p b has) (omega arith) (kind-ends (nextEvent p .kind) refl)) (kind-ends (nextEvent p .kind) refl)
 
 -- ---- every plan reached
 

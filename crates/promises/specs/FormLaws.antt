@@ -57,7 +57,8 @@ form-groups (suc m) least n rest h l o k =
     (λ t. let s : n < 128 = ltb-true n 128 t in rw (form-end m n s, groups-end m least n rest h s))
     (λ t. let b : 128 ≤ n = ltb-false n 128 t in
     let p : n / 128 < 2 * 128 ^ m = omega (arith, k, pow-suc 128 m) in
-    let i : groups m 1 (formOf m (n / 128) ++ rest) ≡ Value (n / 128) (length (formOf m (n / 128))) = form-groups m 1 (n / 128) rest (omega arith) (omega arith) (omega arith) p in
+    let i : groups m 1 (formOf m (n / 128) ++ rest) ≡ Value (n / 128) (length (formOf m (n / 128))) =
+    form-groups m 1 (n / 128) rest (omega arith) (omega arith) (omega arith) p in
     let w : n % 128 + 128 - 128 + 128 * (n / 128) ≡ n = omega arith in
     rw (form-more m n b, groups-more m least (n % 128 + 128) (formOf m (n / 128) ++ rest) (omega arith) (omega arith), i, w, add-one))
 
@@ -88,7 +89,8 @@ tenth-reads least n k (b ∷ s) e = by-test (eqb b 0) (eqb b 1) refl e
         let w : k ≡ 1 = cc in
         rw (u, v, w) ten
 
-above-reads : (m least b n k : ℕ) (s : List ℕ) (r : Number) → groups m 1 s ≡ r → ((v j : ℕ) → groups m 1 s ≡ Value v j → Reads m 1 s v j) → 128 ≤ b → above (b - 128) r ≡ Value n k → Reads (suc m) least (b ∷ s) n k
+above-reads : (m least b n k : ℕ) (s : List ℕ) (r : Number) → groups m 1 s ≡ r → ((v j : ℕ) → groups m 1 s ≡ Value v j → Reads m 1 s v j) → 128 ≤ b →
+    above (b - 128) r ≡ Value n k → Reads (suc m) least (b ∷ s) n k
 above-reads m least b n k s (Value v j) f g h e =
     let p : n ≡ b - 128 + 128 * v = cc in
     let q : k ≡ j + 1 = cc in
@@ -97,7 +99,9 @@ above-reads m least b n k s Ends f g h e = let z : _≡_ {A = ℕ} 0 1 = cc in a
 above-reads m least b n k s Padded f g h e = let z : _≡_ {A = ℕ} 0 1 = cc in absurd (omega arith)
 above-reads m least b n k s Oversized f g h e = let z : _≡_ {A = ℕ} 0 1 = cc in absurd (omega arith)
 
-group-reads : (m least b n k : ℕ) (s : List ℕ) (x y : Bool) → ltb b least ≡ x → ltb b 128 ≡ y → ((v j : ℕ) → groups m 1 s ≡ Value v j → Reads m 1 s v j) → pick x Padded (pick y (Value b 1) (above (b - 128) (groups m 1 s))) ≡ Value n k → Reads (suc m) least (b ∷ s) n k
+group-reads : (m least b n k : ℕ) (s : List ℕ) (x y : Bool) → ltb b least ≡ x → ltb b 128 ≡ y →
+    ((v j : ℕ) → groups m 1 s ≡ Value v j → Reads m 1 s v j) → pick x Padded (pick y (Value b 1) (above (b - 128) (groups m 1 s))) ≡ Value n k →
+    Reads (suc m) least (b ∷ s) n k
 group-reads m least b n k s true y f g i e = let z : _≡_ {A = ℕ} 0 1 = cc in absurd (omega arith)
 group-reads m least b n k s false true f g i e =
     let p : n ≡ b = cc in

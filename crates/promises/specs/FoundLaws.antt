@@ -28,10 +28,13 @@ pub record Found (s : List ℕ) (at least most : ℕ) (f : Field) : Type 0 where
   pub high : f .value ≤ most
   pub ends : f .end ≡ at + size
 
-ranged-found : (s : List ℕ) (at least most : ℕ) (r : Number) → number (drop at s) ≡ r → ranged (length s) at least most r .answer ≡ Accepted → Found s at least most (ranged (length s) at least most r)
+ranged-found : (s : List ℕ) (at least most : ℕ) (r : Number) → number (drop at s) ≡ r → ranged (length s) at least most r .answer ≡ Accepted →
+    Found s at least most (ranged (length s) at least most r)
 ranged-found s at least most (Value v n) e h = by-test (ltb v least) (ltb most v) refl refl h
   where
-    by-test : (x y : Bool) → ltb v least ≡ x → ltb most v ≡ y → pick x (lost (OutOfRange at)) (pick y (lost (OutOfRange at)) (got v (at + n))) .answer ≡ Accepted → Found s at least most (pick x (lost (OutOfRange at)) (pick y (lost (OutOfRange at)) (got v (at + n))))
+    by-test : (x y : Bool) → ltb v least ≡ x → ltb most v ≡ y →
+        pick x (lost (OutOfRange at)) (pick y (lost (OutOfRange at)) (got v (at + n))) .answer ≡ Accepted →
+        Found s at least most (pick x (lost (OutOfRange at)) (pick y (lost (OutOfRange at)) (got v (at + n))))
     by-test true y f g k = let z : _≡_ {A = ℕ} 0 1 = cc in absurd (omega arith)
     by-test false true f g k = let z : _≡_ {A = ℕ} 0 1 = cc in absurd (omega arith)
     by-test false false f g k = record { size = n; reads = e; low = ltb-false v least f; high = ltb-false most v g; ends = refl }
@@ -45,11 +48,13 @@ unfolding field
 field-found s at least most h = ranged-found s at least most (number (drop at s)) refl h
 
 -- where a field is accepted, the one before it is, and it stands behind that
-pub next-found : (s : List ℕ) (before : Field) (least most : ℕ) → next s before least most .answer ≡ Accepted → (before .answer ≡ Accepted) × Found s (before .end) least most (next s before least most)
+pub next-found : (s : List ℕ) (before : Field) (least most : ℕ) → next s before least most .answer ≡ Accepted →
+    (before .answer ≡ Accepted) × Found s (before .end) least most (next s before least most)
 unfolding next
 next-found s before least most h = by-test (accepted (before .answer)) refl h
   where
-    by-test : (b : Bool) → accepted (before .answer) ≡ b → pick b (field s (before .end) least most) (lost (before .answer)) .answer ≡ Accepted → (before .answer ≡ Accepted) × Found s (before .end) least most (pick b (field s (before .end) least most) (lost (before .answer)))
+    by-test : (b : Bool) → accepted (before .answer) ≡ b → pick b (field s (before .end) least most) (lost (before .answer)) .answer ≡ Accepted →
+        (before .answer ≡ Accepted) × Found s (before .end) least most (pick b (field s (before .end) least most) (lost (before .answer)))
     by-test true e k = (accepted-is (before .answer) e, field-found s (before .end) least most k)
     by-test false e k = let a : accepted (before .answer) ≡ true = rw k in let z : true ≡ false = cc in let w : _≡_ {A = ℕ} 0 1 = cc in absurd (omega arith)
 
@@ -74,8 +79,21 @@ pub said-first : (s : List ℕ) (least most : ℕ) (f : Field) → Found s 0 lea
 unfolding forms
 said-first s least most f h =
     let z : f .end ≡ h .size = omega (arith, h .ends) in
-    record { some = omega (arith, number-some s (f .value) (h .size) (h .reads)); bytes = λ b. rw z (reads-form (f .value) (h .size) s b (h .reads) .1 ∙ sym (append-nil (form (f .value)))) }
+    record {
+      some = omega (arith, number-some s (f .value) (h .size) (h .reads));
+      bytes =
+          λ b. rw z (reads-form (f .value) (h .size) s b (h .reads) .1 ∙ sym (append-nil (form (f .value))));
+    }
 
 -- one field more
 pub said-next : (s ns : List ℕ) (at least most : ℕ) (f : Field) → Said s ns at → Found s at least most f → Said s (ns ++ (f .value ∷ [])) (f .end)
-said-next s ns at least most f t h = record { some = omega arith; bytes = λ b. rw (h .ends, take-add at (h .size) s, forms-snoc ns (f .value), t .bytes b, reads-form (f .value) (h .size) (drop at s) (all-drop (λ c. c < 256) at s b) (h .reads) .1) }
+said-next s ns at least most f t h = record {
+  some = omega arith;
+  bytes = λ b. rw (
+    h .ends,
+    take-add at (h .size) s,
+    forms-snoc ns (f .value),
+    t .bytes b,
+    reads-form (f .value) (h .size) (drop at s) (all-drop (λ c. c < 256) at s b) (h .reads) .1,
+  );
+}

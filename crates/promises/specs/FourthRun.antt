@@ -32,7 +32,8 @@ use Rattle.promises.specs.RunStart.{Fixed, FixedIn, step-fixed}
 -- The plan and the decisions after more accepted steps, whatever buffers are lent.
 pub data Further (p : Plan) : Plan → List Decision → Type 0 where
   here : Further p p []
-  farther : {q : Plan} {ds : List Decision} → Further p q ds → (buffer : List ℕ) → numberOf (stepped q (length buffer) .answer) ≡ 0 → Further p (stepped q (length buffer) .plan) (ds ++ decisions (advanced q .log))
+  farther : {q : Plan} {ds : List Decision} → Further p q ds → (buffer : List ℕ) → numberOf (stepped q (length buffer) .answer) ≡ 0 →
+      Further p (stepped q (length buffer) .plan) (ds ++ decisions (advanced q .log))
 
 -- the decision is one of these
 pub record Among (d : Decision) (ds : List Decision) : Type 0 where
@@ -61,33 +62,45 @@ module _ (trace : List ℕ) where
     run-has-completion j s = end-found j (jobAt (p .jobs) j .run) (p .events) (omega (arith, reached-ends trace k p h r .own j s))
 
     -- and only that one.
-    pub run-one-completion : (j i n : ℕ) → jobAt (p .jobs) j .state ≡ Running → EndOf j (jobAt (p .jobs) j .run) (eventAt (p .events) i) → EndOf j (jobAt (p .jobs) j .run) (eventAt (p .events) n) → n ≡ i
+    pub run-one-completion : (j i n : ℕ) → jobAt (p .jobs) j .state ≡ Running → EndOf j (jobAt (p .jobs) j .run) (eventAt (p .events) i) →
+        EndOf j (jobAt (p .jobs) j .run) (eventAt (p .events) n) → n ≡ i
     run-one-completion j i n s x y = end-once (p .events) (kept .counted .size) j (jobAt (p .jobs) j .run) i n (reached-ends trace k p h r .own j s) x y
 
     -- a job that runs for the fourth time was evicted three times
     pub fourth-last : (j : ℕ) → jobAt (p .jobs) j .state ≡ Running → jobAt (p .jobs) j .run ≡ 4 → Last (jobAt (p .jobs) j)
     fourth-last j s f =
-        let o : jobAt (p .jobs) j .run ≡ jobAt (p .jobs) j .evictions + 1 = kept .good .each j .run-is ∙ ap (λ (st : JobState). jobAt (p .jobs) j .evictions + begun st) s in
+        let o : jobAt (p .jobs) j .run ≡ jobAt (p .jobs) j .evictions + 1 = kept .good .each j .run-is
+        ∙ ap (λ (st : JobState). jobAt (p .jobs) j .evictions + begun st) s in
         (s, omega (arith, o, f))
 
     -- One step: the run ends by that entry, told first at the entry's time, or it goes on with the same start and the same entry.
-    pub run-ends-by-completion : (buffer : List ℕ) → numberOf (stepped p (length buffer) .answer) ≡ 0 → (j i : ℕ) → jobAt (p .jobs) j .state ≡ Running → jobAt (p .jobs) j .run ≡ 4 → EndOf j 4 (eventAt (p .events) i) → RunEnds p j i (stepped p (length buffer) .plan) (decisions (advanced p .log)) ⊎ RunGoesOn p j i (stepped p (length buffer) .plan)
+    pub run-ends-by-completion : (buffer : List ℕ) → numberOf (stepped p (length buffer) .answer) ≡ 0 → (j i : ℕ) →
+        jobAt (p .jobs) j .state ≡ Running → jobAt (p .jobs) j .run ≡ 4 → EndOf j 4 (eventAt (p .events) i) →
+        RunEnds p j i (stepped p (length buffer) .plan) (decisions (advanced p .log)) ⊎ RunGoesOn p j i (stepped p (length buffer) .plan)
     run-ends-by-completion buffer e j i s f x =
         let q : stepped p (length buffer) .plan ≡ advanced p .plan = ap (λ y. y .plan) (accepted-plan p buffer e) in
         rw q (step-run (first trace .jobs) k h p kept (accepted-for p buffer e .1) (reached-ends trace k p h r) j i (fourth-last j s f) (rw f x))
 
     -- A step that tells a start: the job runs from the time told, and the completion of that run stands in the room at start + remaining × multiplier.
-    pub start-fixes-completion : (buffer : List ℕ) → numberOf (stepped p (length buffer) .answer) ≡ 0 → (before after : List Decision) (d : Decision) → decisions (advanced p .log) ≡ before ++ (d ∷ after) → isStarted (d .kind) ≡ true → Fixed (stepped p (length buffer) .plan .setting .options) (stepped p (length buffer) .plan .jobs) (stepped p (length buffer) .plan .events) d
+    pub start-fixes-completion : (buffer : List ℕ) → numberOf (stepped p (length buffer) .answer) ≡ 0 →
+        (before after : List Decision) (d : Decision) → decisions (advanced p .log) ≡ before ++ (d ∷ after) → isStarted (d .kind) ≡ true →
+        Fixed (stepped p (length buffer) .plan .setting .options) (stepped p (length buffer) .plan .jobs) (stepped p (length buffer) .plan .events) d
     start-fixes-completion buffer e before after d l s =
         let q : stepped p (length buffer) .plan ≡ advanced p .plan = ap (λ y. y .plan) (accepted-plan p buffer e) in
         rw q (all-middle (FixedIn (advanced p .plan)) before d after (rw (← l) (step-fixed (first trace .jobs) k h p kept (accepted-for p buffer e .1))) s)
 
   -- Any number of steps on: the completion was told, at the time of the entry, or the run goes on as it was.
-  pub fourth-run-ends : (k : ℕ) (p : Plan) (h : List Decision) → Reached trace k p h → (j i : ℕ) → jobAt (p .jobs) j .state ≡ Running → jobAt (p .jobs) j .run ≡ 4 → EndOf j 4 (eventAt (p .events) i) → (q : Plan) (ds : List Decision) → Further p q ds → Among (endTold p j i) ds ⊎ RunGoesOn p j i q
+  pub fourth-run-ends : (k : ℕ) (p : Plan) (h : List Decision) → Reached trace k p h → (j i : ℕ) → jobAt (p .jobs) j .state ≡ Running →
+      jobAt (p .jobs) j .run ≡ 4 → EndOf j 4 (eventAt (p .events) i) → (q : Plan) (ds : List Decision) → Further p q ds → Among (endTold p j i) ds ⊎ RunGoesOn p j i q
   fourth-run-ends k p h r j i s f x q ds here = inr (record { job = refl; entry = refl })
   fourth-run-ends k p h r j i s f x q ds (farther {q = m} {ds = es} w buffer e) =
       ⊎-elim
-      (λ t. inl (record { before = t .before; after = t .after ++ decisions (advanced m .log); is = ap (λ (l : List Decision). l ++ decisions (advanced m .log)) (t .is) ∙ append-assoc (t .before) (endTold p j i ∷ t .after) (decisions (advanced m .log)) }))
+      (λ t. inl (record {
+        before = t .before;
+        after = t .after ++ decisions (advanced m .log);
+        is =
+            ap (λ (l : List Decision). l ++ decisions (advanced m .log)) (t .is) ∙ append-assoc (t .before) (endTold p j i ∷ t .after) (decisions (advanced m .log));
+      }))
       (λ g.
       let g : RunGoesOn p j i m = g in
       let t : ReachedThen trace m (h ++ es) = further-reached k p m h es r w in
@@ -97,7 +110,8 @@ module _ (trace : List ℕ) where
       (run-ends-by-completion (t .steps) m (h ++ es) (t .reached) buffer e j i (rw (g .job) s) (rw (g .job) f) (rw (g .entry) x)))
       (fourth-run-ends k p h r j i s f x m es w)
     where
-      ended : (m : Plan) (es : List Decision) (buffer : List ℕ) → RunGoesOn p j i m → RunEnds m j i (stepped m (length buffer) .plan) (decisions (advanced m .log)) → Among (endTold p j i) (es ++ decisions (advanced m .log))
+      ended : (m : Plan) (es : List Decision) (buffer : List ℕ) → RunGoesOn p j i m →
+          RunEnds m j i (stepped m (length buffer) .plan) (decisions (advanced m .log)) → Among (endTold p j i) (es ++ decisions (advanced m .log))
       ended m es buffer g y =
           let d : endTold m j i ≡ endTold p j i = rw (g .entry, g .job) in
           record { before = es; after = y .rest; is = ap (λ (l : List Decision). es ++ l) (y .told ∙ ap (λ (z : Decision). z ∷ y .rest) d) }
@@ -106,9 +120,17 @@ module _ (trace : List ℕ) where
   abbrev pub fixedEnd : Plan → ℕ → Bool → Decision
   fixedEnd q j penalised =
       let x = jobAt (q .jobs) j in
-      record { time = bitsOf (Life.completionAt x (x .start) (Life.multiplierOf (q .setting .options) penalised)); kind = Kinds.Completed; job = j; other = amount (x .ask) }
+      record {
+        time = bitsOf (Life.completionAt x (x .start) (Life.multiplierOf (q .setting .options) penalised));
+        kind = Kinds.Completed;
+        job =
+            j;
+        other = amount (x .ask);
+      }
 
-  module _ (k : ℕ) (p : Plan) (h : List Decision) (r : Reached trace k p h) (buffer : List ℕ) (accepted : numberOf (stepped p (length buffer) .answer) ≡ 0) (before after : List Decision) (d : Decision) (among : decisions (advanced p .log) ≡ before ++ (d ∷ after)) (start : isStarted (d .kind) ≡ true) where
+  module _ (k : ℕ) (p : Plan) (h : List Decision) (r : Reached trace k p h) (buffer : List ℕ)
+      (accepted : numberOf (stepped p (length buffer) .answer) ≡ 0) (before after : List Decision) (d : Decision)
+      (among : decisions (advanced p .log) ≡ before ++ (d ∷ after)) (start : isStarted (d .kind) ≡ true) where
     -- the plan after the step that told the start
     abbrev pub then : Plan
     then = stepped p (length buffer) .plan
@@ -117,9 +139,11 @@ module _ (trace : List ℕ) where
     fixed = start-fixes-completion k p h r buffer accepted before after d among start
 
     -- From its fourth start on, any number of steps: the job is as it was when it started, or its completion was told at the time that the start fixed.
-    pub fourth-run-in-full : startsOf (d .job) (h ++ decisions (advanced p .log)) ≡ 4 → (q : Plan) (ds : List Decision) → Further then q ds → Among (fixedEnd then (d .job) (fixed .penalised)) ds ⊎ RunGoesOn then (d .job) (fixed .entry) q
+    pub fourth-run-in-full : startsOf (d .job) (h ++ decisions (advanced p .log)) ≡ 4 → (q : Plan) (ds : List Decision) → Further then q ds →
+        Among (fixedEnd then (d .job) (fixed .penalised)) ds ⊎ RunGoesOn then (d .job) (fixed .entry) q
     fourth-run-in-full four q ds f =
         let n : Reached trace (k + 1) then (h ++ decisions (advanced p .log)) = onward r buffer accepted in
-        let run : jobAt (then .jobs) (d .job) .run ≡ 4 = sym (reached-between trace (k + 1) then (h ++ decisions (advanced p .log)) n .0 .good .started (d .job)) ∙ four in
+        let run : jobAt (then .jobs) (d .job) .run ≡ 4 =
+        sym (reached-between trace (k + 1) then (h ++ decisions (advanced p .log)) n .0 .good .started (d .job)) ∙ four in
         let e : endTold then (d .job) (fixed .entry) ≡ fixedEnd then (d .job) (fixed .penalised) = rw (fixed .time) in
         rw (← e) (fourth-run-ends (k + 1) then (h ++ decisions (advanced p .log)) n (d .job) (fixed .entry) (fixed .runs-now) run (rw (← run) (fixed .is)) q ds f)

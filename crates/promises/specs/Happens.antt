@@ -1,17 +1,11 @@
 -- What an event says keeps what holds between two steps: an arrival, a completion, a timeout, a stale one.
-use mathlib.Core.Path.{_≡_, refl, sym, ap, _∙_}
-use mathlib.Core.Logic.{⊎-elim}
-use mathlib.Core.Bool.{Bool, true, false, _&&_}
+use mathlib.Core.Path.{_≡_, refl, ap, _∙_}
+use mathlib.Core.Bool.{Bool, true}
 use mathlib.Core.List.{List, [], _∷_, _++_, map, append-nil}
 use Prim.Native.Nat.{ℕ, _+_, _*_, _≤_, _<_}
 use native.Mathlib.Omega.{arith}
-use lib.Dec.{eqb}
-use lib.ListN.{length, getD, take, set, replicate, length-set, length-map, length-replicate}
-use lib.Seq.{getD-set-same, getD-set-other}
+use lib.ListN.{length, set, length-set, length-map, length-replicate}
 use lib.Ieee.{Float}
-use borrow.Author.Tests.{eqb-true}
-use Rattle.laws.specs.Choice.{pick, pick-cases}
-use Rattle.laws.specs.Tests.{never-both, and-both, eq-or-ne}
 use Rattle.laws.specs.Lists.{set-at, pad, pad-length}
 use Rattle.laws.specs.Sums.{bit}
 use Rattle.small.specs.Small.{plusOne}
@@ -23,7 +17,6 @@ use Rattle.model.specs.declared.job.Job.{Job}
 use Rattle.model.specs.declared.job.JobState.{JobState}
 use Rattle.model.specs.declared.job.JobState.the-variants.{Pending, Waiting, Placed, Running, Finished, Failed}
 use Rattle.model.specs.declared.plan.Plan.{Plan}
-use Rattle.model.specs.declared.setting.Setting.{Setting}
 use Rattle.log.specs.Log.{emptyLog, told, decisions, noDecision, told-behind}
 use Rattle.log.specs.declared.Decision.{Decision}
 use Rattle.log.specs.declared.Kind.{Kind}
@@ -31,21 +24,19 @@ use Rattle.log.specs.declared.Kind.the-variants as Kinds
 use Rattle.life.specs.Life as Life
 use Rattle.life.specs.Life.{timed}
 use Rattle.mig.specs.Owner.{freed}
-use Rattle.cluster.specs.Usage.{runs}
-use Rattle.line.specs.Keep.{waitsIn, stillWaiting}
+use Rattle.line.specs.Keep.{stillWaiting}
 use Rattle.room.specs.declared.ahead.Ahead.{Ahead}
 use Rattle.starts.specs.Timeout.{timeoutQueued}
 use Rattle.starts.specs.Begin.{amount}
-use Rattle.happen.specs.Happen.{jobOf, stale, said, joins, withAhead, arrives, completes, timesOut, ofRun, ofTimeout, completed, timedOut}
-use Rattle.happen.specs.declared.Moment.{Moment}
+use Rattle.happen.specs.Happen.{jobOf, stale, said, joins, withAhead, arrives, completes, timesOut}
 use Rattle.history.specs.Good.{jobAt, Good}
 use Rattle.history.specs.Changes.{in-table, good-waits, good-fails, good-ends}
 use Rattle.history.specs.Entries.{arriving}
-use Rattle.history.specs.Queued.{Counted, Grown, timeout-grown}
+use Rattle.history.specs.Queued.{Grown, timeout-grown}
 use Rattle.history.specs.Owed.{Rest, allEvents, owed-waits, owed-fails, owed-ends, owed-set, rest-below, rest-set}
 use Rattle.history.specs.Good.{came}
 use Rattle.history.specs.PassOwed.{arrived-not}
-use Rattle.promises.specs.Between.{aheadIn, Between, Amid, nine, still-most}
+use Rattle.promises.specs.Between.{Between, Amid, nine, still-most}
 
 -- ---- the log
 
@@ -66,13 +57,15 @@ unfolding told emptyLog
 one-count time kind job other = omega arith
 
 -- one decision is told, at the clock
-pub one-told : (p : Plan) (kind : Kind) (job other : ℕ) → decisions (told emptyLog (bitsOf (p .clock)) kind job other) ≡ record { time = bitsOf (p .clock); kind = kind; job = job; other = other } ∷ []
+pub one-told : (p : Plan) (kind : Kind) (job other : ℕ) →
+    decisions (told emptyLog (bitsOf (p .clock)) kind job other) ≡ record { time = bitsOf (p .clock); kind = kind; job = job; other = other } ∷ []
 unfolding emptyLog
 one-told p kind job other =
     let d : Decision = record { time = bitsOf (p .clock); kind = kind; job = job; other = other } in
     told-behind emptyLog (bitsOf (p .clock)) kind job other empty-table (omega arith) ∙ ap (λ (l : List Decision). l ++ (d ∷ [])) empty-told
 
-said-amid : (jobs₀ : List Job) (k : ℕ) (h : List Decision) (p : Plan) (ok : Bool) (kind : Kind) (job other : ℕ) → Between jobs₀ k (h ++ (record { time = bitsOf (p .clock); kind = kind; job = job; other = other } ∷ [])) p → Amid jobs₀ k h (said p ok kind job other)
+said-amid : (jobs₀ : List Job) (k : ℕ) (h : List Decision) (p : Plan) (ok : Bool) (kind : Kind) (job other : ℕ) →
+    Between jobs₀ k (h ++ (record { time = bitsOf (p .clock); kind = kind; job = job; other = other } ∷ [])) p → Amid jobs₀ k h (said p ok kind job other)
 unfolding said
 said-amid jobs₀ k h p ok kind job other b =
     record { between = rw (one-told p kind job other) b; table = told-table; own = told-count }
@@ -92,7 +85,9 @@ stale-amid jobs₀ k h p b =
 
 -- ---- arrivals ahead after a change of one job
 
-pends-set : (events events' : List Event) (jobs : List Job) (id : ℕ) (j : Job) → id < length jobs → ((i : ℕ) → arriving i events' ≤ arriving i events) → ((i : ℕ) → arriving i events + came (jobAt jobs i .state) ≤ 1) → arriving id events' + came (j .state) ≤ 1 → (i : ℕ) → arriving i events' + came (jobAt (set jobs id j) i .state) ≤ 1
+pends-set : (events events' : List Event) (jobs : List Job) (id : ℕ) (j : Job) → id < length jobs →
+    ((i : ℕ) → arriving i events' ≤ arriving i events) → ((i : ℕ) → arriving i events + came (jobAt jobs i .state) ≤ 1) →
+    arriving id events' + came (j .state) ≤ 1 → (i : ℕ) → arriving i events' + came (jobAt (set jobs id j) i .state) ≤ 1
 pends-set events events' jobs id j b f p h i =
     set-at jobs id j noJob (λ i x. arriving i events' + came (x .state) ≤ 1) b h (λ i n. omega (arith, f i, p i)) i
 
@@ -116,7 +111,8 @@ unfolding Life.waits
 waits-came j clock = refl
 
 -- the job that arrives had one arrival ahead, which was taken, and had not arrived
-pub arrives-amid : (jobs₀ : List Job) (k : ℕ) (h : List Decision) (p : Plan) (id : ℕ) → 1 ≤ k → Between jobs₀ k h p → id < p .setting .jobs → arriving id (p .events) ≡ 0 → came (jobAt (p .jobs) id .state) ≡ 0 → Amid jobs₀ k h (arrives p id)
+pub arrives-amid : (jobs₀ : List Job) (k : ℕ) (h : List Decision) (p : Plan) (id : ℕ) → 1 ≤ k → Between jobs₀ k h p → id < p .setting .jobs →
+    arriving id (p .events) ≡ 0 → came (jobAt (p .jobs) id .state) ≡ 0 → Amid jobs₀ k h (arrives p id)
 unfolding arrives joins
 arrives-amid jobs₀ k h p id one b inside none new =
     let j : Job = Life.waits (jobOf p id) (p .clock) in
@@ -125,12 +121,16 @@ arrives-amid jobs₀ k h p id one b inside none new =
     let small : id < 128 = omega (arith, inside, b .loaded) in
     let pending : jobAt (p .jobs) id .state ≡ Pending = not-came (jobAt (p .jobs) id .state) new in
     let jobs : List Job = set (p .jobs) id j in
-    let good : Good (p .setting) jobs₀ jobs (h ++ (record { time = bitsOf (p .clock); kind = Kinds.Arrived; job = id; other = 0 } ∷ [])) = good-waits (p .setting) jobs₀ (p .jobs) h (b .good) id (bitsOf (p .clock)) 0 (p .clock) small pending in
+    let good : Good (p .setting) jobs₀ jobs (h ++ (record { time = bitsOf (p .clock); kind = Kinds.Arrived; job = id; other = 0 } ∷ [])) =
+    good-waits (p .setting) jobs₀ (p .jobs) h (b .good) id (bitsOf (p .clock)) 0 (p .clock) small pending in
     let rest : Rest (p .setting .jobs) jobs = rest-set (p .setting .jobs) id (p .jobs) j inside (b .rest) in
-    let owed : allEvents jobs ≡ allEvents (p .jobs) + bit (timed (jobAt (p .jobs) id .ask)) = owed-set (p .jobs) id (bit (timed (jobAt (p .jobs) id .ask))) j (omega (arith, b .good .size, small)) (owed-waits (jobAt (p .jobs) id) (p .clock) pending) in
+    let owed : allEvents jobs ≡ allEvents (p .jobs) + bit (timed (jobAt (p .jobs) id .ask)) =
+    owed-set (p .jobs) id (bit (timed (jobAt (p .jobs) id .ask))) j (omega (arith, b .good .size, small)) (owed-waits (jobAt (p .jobs) id) (p .clock) pending) in
     let asked : bit (timed (j .ask)) ≡ bit (timed (jobAt (p .jobs) id .ask)) = ap (λ (x : Ask). bit (timed x)) (waits-ask (jobAt (p .jobs) id) (p .clock)) in
     let n9 : p .setting .jobs + allEvents jobs ≤ 9 * p .setting .jobs = nine jobs₀ (p .setting) jobs _ (b .loaded) good rest in
-    let g : Grown k (bit (timed (j .ask))) (record { events = p .events; next = p .next; ok = true }) a = timeout-grown k (record { events = p .events; next = p .next; ok = true }) id j (j .ask .arrival) one (omega (arith, asked, owed, n9, b .given, b .loaded)) (record { size = b .counted .size; count = b .counted .count }) in
+    let g : Grown k (bit (timed (j .ask))) (record { events = p .events; next = p .next; ok = true }) a =
+    timeout-grown k (record { events = p .events; next = p .next; ok = true }) id j (j .ask .arrival) one
+    (omega (arith, asked, owed, n9, b .given, b .loaded)) (record { size = b .counted .size; count = b .counted .count }) in
     said-amid jobs₀ k h q (a .ok) Kinds.Arrived id 0
     (record {
       loaded = b .loaded;
@@ -140,20 +140,34 @@ arrives-amid jobs₀ k h p id one b inside none new =
       rest = rest;
       counted = record { size = g .counted .size; count = g .counted .count };
       given = omega (arith, g .next, asked, owed, b .given);
-      pends = pends-set (p .events) (a .events) (p .jobs) id j (omega (arith, b .good .size, small)) (g .arrivals) (b .pends) (omega (arith, g .arrivals id, none, waits-came (jobAt (p .jobs) id) (p .clock)));
+      pends = pends-set (p .events) (a .events) (p .jobs) id j (omega (arith, b .good .size, small)) (g .arrivals) (b .pends)
+          (omega (arith, g .arrivals id, none, waits-came (jobAt (p .jobs) id) (p .clock)));
       inside = λ i n. omega (arith, b .inside i n, g .arrivals i);
     })
 
 -- ---- a completion
 
-pub completes-amid : (jobs₀ : List Job) (k : ℕ) (h : List Decision) (p : Plan) (id : ℕ) → Between jobs₀ k h p → jobAt (p .jobs) id .state ≡ Running → Amid jobs₀ k h (completes p id)
+pub completes-amid : (jobs₀ : List Job) (k : ℕ) (h : List Decision) (p : Plan) (id : ℕ) → Between jobs₀ k h p → jobAt (p .jobs) id .state ≡ Running →
+    Amid jobs₀ k h (completes p id)
 unfolding completes Life.ends
 completes-amid jobs₀ k h p id b run =
     let j : Job = Life.ends (jobOf p id) in
-    let q : Plan = record { setting = p .setting; gpus = map (freed (plusOne id)) (p .gpus); jobs = set (p .jobs) id j; queue = p .queue; waiting = p .waiting; events = p .events; next = p .next; clock = p .clock; totals = p .totals } in
+    let q : Plan = record {
+      setting = p .setting;
+      gpus = map (freed (plusOne id)) (p .gpus);
+      jobs = set (p .jobs) id j;
+      queue = p .queue;
+      waiting =
+          p .waiting;
+      events = p .events;
+      next = p .next;
+      clock = p .clock;
+      totals = p .totals;
+    } in
     let there : jobAt (p .jobs) id .state ≡ Pending → ⊥ = arrived-not (jobAt (p .jobs) id .state) (ap came run) in
     let small : id < 128 = in-table (p .jobs) id (b .good .size) there in
-    let owed : allEvents (set (p .jobs) id j) ≡ allEvents (p .jobs) + 0 = owed-set (p .jobs) id 0 j (omega (arith, b .good .size, small)) (owed-ends (jobAt (p .jobs) id) run ∙ omega arith) in
+    let owed : allEvents (set (p .jobs) id j) ≡ allEvents (p .jobs) + 0 =
+    owed-set (p .jobs) id 0 j (omega (arith, b .good .size, small)) (owed-ends (jobAt (p .jobs) id) run ∙ omega arith) in
     let c : came (jobAt (p .jobs) id .state) ≡ 1 = ap came run in
     said-amid jobs₀ k h q true Kinds.Completed id (amount (jobOf p id .ask))
     (record {
@@ -170,16 +184,29 @@ completes-amid jobs₀ k h p id b run =
 
 -- ---- a timeout
 
-pub fails-amid : (jobs₀ : List Job) (k : ℕ) (h : List Decision) (p : Plan) (id : ℕ) → Between jobs₀ k h p → jobAt (p .jobs) id .state ≡ Waiting → Amid jobs₀ k h (timesOut p id)
+pub fails-amid : (jobs₀ : List Job) (k : ℕ) (h : List Decision) (p : Plan) (id : ℕ) → Between jobs₀ k h p → jobAt (p .jobs) id .state ≡ Waiting →
+    Amid jobs₀ k h (timesOut p id)
 unfolding timesOut Life.fails
 fails-amid jobs₀ k h p id b wait =
     let j : Job = Life.fails (jobOf p id) (p .clock) in
     let jobs : List Job = set (p .jobs) id j in
     let left : List ℕ = stillWaiting jobs (p .queue) (p .waiting) in
-    let q : Plan = record { setting = p .setting; gpus = p .gpus; jobs = jobs; queue = pad 128 0 left; waiting = length left; events = p .events; next = p .next; clock = p .clock; totals = p .totals } in
+    let q : Plan = record {
+      setting = p .setting;
+      gpus = p .gpus;
+      jobs = jobs;
+      queue = pad 128 0 left;
+      waiting = length left;
+      events =
+          p .events;
+      next = p .next;
+      clock = p .clock;
+      totals = p .totals;
+    } in
     let there : jobAt (p .jobs) id .state ≡ Pending → ⊥ = arrived-not (jobAt (p .jobs) id .state) (ap came wait) in
     let small : id < 128 = in-table (p .jobs) id (b .good .size) there in
-    let owed : allEvents jobs ≡ allEvents (p .jobs) + 0 = owed-set (p .jobs) id 0 j (omega (arith, b .good .size, small)) (owed-fails (jobAt (p .jobs) id) (p .clock) wait ∙ omega arith) in
+    let owed : allEvents jobs ≡ allEvents (p .jobs) + 0 =
+    owed-set (p .jobs) id 0 j (omega (arith, b .good .size, small)) (owed-fails (jobAt (p .jobs) id) (p .clock) wait ∙ omega arith) in
     let c : came (jobAt (p .jobs) id .state) ≡ 1 = ap came wait in
     said-amid jobs₀ k h q (permitted (j .waited)) Kinds.Failed id 0
     (record {

@@ -9,7 +9,6 @@ use borrow.Author.Tests.{ltb-true, ltb-false}
 use Rattle.laws.specs.Tests.{split}
 use Rattle.model.specs.Sizes as Sizes
 use Rattle.trace.specs.Answer.{numberOf, placeOf}
-use Rattle.trace.specs.declared.answer.Answer.{Answer}
 use Rattle.trace.specs.declared.answer.Answer.the-variants.{TooLong}
 use Rattle.loader.specs.Load.{load}
 use Rattle.log.specs.declared.Decision.{Decision}
@@ -31,7 +30,8 @@ place-most trace =
     (λ s. let e : placeOf (load trace .answer) ≡ placeOf (TooLong Sizes.traceBytes) = ap placeOf (long-refused trace (ltb-true _ _ s)) in omega (arith, e))
     (λ s. let h : length trace ≤ Sizes.traceBytes = ltb-false _ _ s in omega (arith, h, refusal-inside trace))
 
-pub load-word-told : (trace : List ℕ) → (loadWord (load trace .answer) / 2 ^ 32 ≡ numberOf (load trace .answer)) × (loadWord (load trace .answer) % 2 ^ 32 ≡ placeOf (load trace .answer))
+pub load-word-told : (trace : List ℕ) → (loadWord (load trace .answer) / 2 ^ 32 ≡ numberOf (load trace .answer)) ×
+    (loadWord (load trace .answer) % 2 ^ 32 ≡ placeOf (load trace .answer))
 load-word-told trace =
     let small : placeOf (load trace .answer) < 2 ^ 32 = omega (arith, place-most trace) in
     (word-number (numberOf (load trace .answer)) (placeOf (load trace .answer)), word-value (numberOf (load trace .answer)) (placeOf (load trace .answer)) small)
@@ -49,6 +49,9 @@ module _ (trace : List ℕ) (k : ℕ) (p : Plan) (h : List Decision) (r : Reache
       (λ l n o. omega arith)
       (λ l n o. omega (arith, step-decisions trace k p h r n .1))
 
-  pub step-word-told : (stepWord (stepped p (length buffer) .answer) / 2 ^ 32 ≡ Step.numberOf (stepped p (length buffer) .answer)) × (stepWord (stepped p (length buffer) .answer) % 2 ^ 32 ≡ countOf (stepped p (length buffer) .answer))
-  step-word-told =
-      (word-number (Step.numberOf (stepped p (length buffer) .answer)) (countOf (stepped p (length buffer) .answer)), word-value (Step.numberOf (stepped p (length buffer) .answer)) (countOf (stepped p (length buffer) .answer)) count-few)
+  pub step-word-told : (stepWord (stepped p (length buffer) .answer) / 2 ^ 32 ≡ Step.numberOf (stepped p (length buffer) .answer)) ×
+      (stepWord (stepped p (length buffer) .answer) % 2 ^ 32 ≡ countOf (stepped p (length buffer) .answer))
+  step-word-told = (
+    word-number (Step.numberOf (stepped p (length buffer) .answer)) (countOf (stepped p (length buffer) .answer)),
+    word-value (Step.numberOf (stepped p (length buffer) .answer)) (countOf (stepped p (length buffer) .answer)) count-few,
+  )

@@ -136,10 +136,15 @@ unfolding gpusAfter gather
 gpus-snoc nodes [] r = let e : nodes + 0 ≡ nodes = omega arith in rw e (append-nil (gpuIn nodes r))
 gpus-snoc nodes (x ∷ rs) r =
     let e : nodes + length (siteIn x) + length (sitesOf rs) ≡ nodes + length (siteIn x ++ sitesOf rs) = omega (arith, length-append (siteIn x) (sitesOf rs)) in
-    rw (gpus-snoc (nodes + length (siteIn x)) rs r, e, append-assoc (gpuIn nodes x) (gpusAfter (nodes + length (siteIn x)) rs) (gpuIn (nodes + length (siteIn x ++ sitesOf rs)) r))
+    rw (
+      gpus-snoc (nodes + length (siteIn x)) rs r,
+      e,
+      append-assoc (gpuIn nodes x) (gpusAfter (nodes + length (siteIn x)) rs) (gpuIn (nodes + length (siteIn x ++ sitesOf rs)) r),
+    )
 
 -- every record but the end stands in one of the lists, and in one alone: their lengths add up
-pub all-listed : (nodes : ℕ) (rs : List Record) → All (λ r. isEnd r ≡ false) rs → length rs ≡ length (sitesOf rs) + length (gpusAfter nodes rs) + length (quotasOf rs) + length (mostsOf rs) + length (asksOf rs) + length (optionsOf rs)
+pub all-listed : (nodes : ℕ) (rs : List Record) → All (λ r. isEnd r ≡ false) rs →
+    length rs ≡ length (sitesOf rs) + length (gpusAfter nodes rs) + length (quotasOf rs) + length (mostsOf rs) + length (asksOf rs) + length (optionsOf rs)
 unfolding gpusAfter gather
 all-listed nodes [] h = refl
 all-listed nodes (R.End ∷ rs) h = let z : _≡_ {A = ℕ} 0 1 = cc (h .0) in absurd (omega arith)
@@ -186,7 +191,8 @@ unfolding lookup
 lookup-new [] x f h = rw (eqb-self (x .key))
 lookup-new (e ∷ l) x f h = by-key (eqb (e .key) (x .key)) h (lookup-new l x (f .1))
   where
-    by-key : (b : Bool) → pick b (e .value) (lookup (x .key) l) ≡ 0 → (lookup (x .key) l ≡ 0 → lookup (x .key) (l ++ (x ∷ [])) ≡ x .value) → pick b (e .value) (lookup (x .key) (l ++ (x ∷ []))) ≡ x .value
+    by-key : (b : Bool) → pick b (e .value) (lookup (x .key) l) ≡ 0 → (lookup (x .key) l ≡ 0 → lookup (x .key) (l ++ (x ∷ [])) ≡ x .value) →
+        pick b (e .value) (lookup (x .key) (l ++ (x ∷ []))) ≡ x .value
     by-key true z i = absurd (omega (arith, f .0))
     by-key false z i = i z
 

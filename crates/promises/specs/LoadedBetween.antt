@@ -1,12 +1,12 @@
 -- A plan as loaded has what holds between two steps: no step was taken and nothing was told.
-use mathlib.Core.Path.{_≡_, refl, sym, ap, _∙_}
+use mathlib.Core.Path.{_≡_, refl, sym}
 use mathlib.Core.Logic.{⊎-elim}
 use mathlib.Core.Bool.{Bool, true, false, _&&_}
 use mathlib.Core.List.{List, [], _∷_}
-use Prim.Native.Nat.{ℕ, zero, suc, _+_, _≤_, _<_, min}
+use Prim.Native.Nat.{ℕ, zero, suc, _+_, _≤_}
 use native.Mathlib.Omega.{arith}
 use lib.Dec.{eqb}
-use lib.ListN.{length, getD, take, length-take}
+use lib.ListN.{length, getD, take}
 use lib.Seq.{getD-take, length-take-le, take-nil}
 use borrow.Author.Tests.{ne-eqb}
 use Rattle.laws.specs.Choice.{pick}
@@ -15,17 +15,14 @@ use Rattle.laws.specs.Lists.{All, all-of, all-take}
 use Rattle.laws.specs.Sums.{sumOver, bit, sum-none, sum-first}
 use Rattle.model.specs.Job.{newJob, noJob}
 use Rattle.model.specs.Event.{emptyEvent}
-use Rattle.model.specs.declared.event.Event.{Event}
 use Rattle.model.specs.declared.job.Ask.{Ask}
 use Rattle.model.specs.declared.job.Job.{Job}
-use Rattle.model.specs.declared.job.JobState.the-variants.{Pending}
 use Rattle.model.specs.declared.plan.Plan.{Plan}
 use Rattle.life.specs.Life.{timed}
 use Rattle.cluster.specs.Usage.{holding, chargeTo, usage, running}
 use Rattle.life.specs.Life.{timed}
 use Rattle.cluster.specs.UsageLaws.{charge-none}
-use Rattle.loader.specs.Arrivals.{arrivalOf}
-use Rattle.history.specs.Told.{evictionsOf, startsOf, runsAfter, runsFrom}
+use Rattle.history.specs.Told.{runsFrom}
 use Rattle.history.specs.Good.{jobAt, JobOk, Good, Now, good-now}
 use Rattle.history.specs.Entries.{inUse, usedOne, isArrival, arrivalOne, arriving, sum-ones}
 use Rattle.history.specs.Owed.{eventsOf, allEvents}
@@ -110,7 +107,9 @@ module _ (p : Plan) (r : Ready p) where
       let n : ℕ = p .setting .jobs in
       let e : sumOver usedOne (p .events) ≡ sumOver usedOne (take n (p .events)) = sum-first usedOne n (p .events) emptyEvent (λ k past. rw (r .empty k past)) in
       let l : length (take n (p .events)) ≡ n = length-take-le n (p .events) (omega (arith, r .event-size, r .job-room)) in
-      let ones : All (λ x. usedOne x ≡ 1) (take n (p .events)) = all-of (λ x. usedOne x ≡ 1) (take n (p .events)) emptyEvent (λ k b. rw (getD-take n (p .events) k emptyEvent (omega (arith, b, l)), r .arrival k (omega (arith, b, l)))) in
+      let ones : All (λ x. usedOne x ≡ 1) (take n (p .events)) =
+      all-of (λ x. usedOne x ≡ 1) (take n (p .events)) emptyEvent
+      (λ k b. rw (getD-take n (p .events) k emptyEvent (omega (arith, b, l)), r .arrival k (omega (arith, b, l)))) in
       omega (arith, e, l, sum-ones usedOne (take n (p .events)) ones)
 
   nothing-owed : allEvents (p .jobs) ≡ 0
@@ -119,13 +118,16 @@ module _ (p : Plan) (r : Ready p) where
   nothing-used : (tenant : ℕ) → usage (p .jobs) (p .setting .jobs) tenant ≡ 0
   unfolding usage
   nothing-used tenant =
-      sum-none (chargeTo tenant) (take (p .setting .jobs) (p .jobs)) (all-take (λ j. chargeTo tenant j ≡ 0) (p .setting .jobs) (p .jobs) (all-of (λ j. chargeTo tenant j ≡ 0) (p .jobs) noJob (λ k b. charge-none tenant (jobAt (p .jobs) k) (new-at k .holds-not))))
+      sum-none (chargeTo tenant) (take (p .setting .jobs) (p .jobs))
+      (all-take (λ j. chargeTo tenant j ≡ 0) (p .setting .jobs) (p .jobs)
+      (all-of (λ j. chargeTo tenant j ≡ 0) (p .jobs) noJob (λ k b. charge-none tenant (jobAt (p .jobs) k) (new-at k .holds-not))))
 
   first-now : (m : ℕ) → Now (p .setting) (p .jobs) (take m [])
   unfolding sumOver runsFrom
   first-now m =
       rw (take-nil m)
-      (good-now (p .setting) (p .jobs) (p .jobs) [] (r .job-size) (λ k. refl) (λ k. new-at k .ok) (λ k. sym (new-at k .evicted)) (λ k. sym (new-at k .started)) (λ k. sym (new-at k .runs-not)) (λ tenant z f. omega (arith, f, nothing-used tenant)) tt)
+      (good-now (p .setting) (p .jobs) (p .jobs) [] (r .job-size) (λ k. refl) (λ k. new-at k .ok) (λ k. sym (new-at k .evicted))
+      (λ k. sym (new-at k .started)) (λ k. sym (new-at k .runs-not)) (λ tenant z f. omega (arith, f, nothing-used tenant)) tt)
 
   good-first : Good (p .setting) (p .jobs) (p .jobs) []
   unfolding sumOver runsFrom

@@ -89,7 +89,8 @@ module _ (jobs : List Job) (n : ℕ) (full : length jobs ≡ Sizes.jobs) (few : 
   pub arrivals-past : (i : ℕ) → n ≤ i → getD (arrivals jobs n) i emptyEvent ≡ emptyEvent
   unfolding arrivals
   arrivals-past i h =
-      pad-getD Sizes.events emptyEvent (arrivalsFrom 0 (take n jobs)) i (omega (arith, front-length)) ∙ List·getD-eq-default (arrivalsFrom 0 (take n jobs)) emptyEvent {n = i} (omega (arith, front-length))
+      pad-getD Sizes.events emptyEvent (arrivalsFrom 0 (take n jobs)) i (omega (arith, front-length))
+      ∙ List·getD-eq-default (arrivalsFrom 0 (take n jobs)) emptyEvent {n = i} (omega (arith, front-length))
 
 gpu-idle : (nodes : ℕ) (r : Record) → All Idle (gpuIn nodes r)
 gpu-idle nodes R.End = tt

@@ -48,7 +48,8 @@ pub record Chosen (listed : List Options) (options : Options) (told : Bool) : Ty
   pub untold : told ≡ false → listed ≡ []
   pub is-told : told ≡ true → 1 ≤ length listed
 
-row-put : {A : Type 0} (size : ℕ) (none x : A) (listed table : List A) (count : ℕ) → Row size none listed table count → count < size → Row size none (listed ++ (x ∷ [])) (set table count x) (count + 1)
+row-put : {A : Type 0} (size : ℕ) (none x : A) (listed table : List A) (count : ℕ) → Row size none listed table count → count < size →
+    Row size none (listed ++ (x ∷ [])) (set table count x) (count + 1)
 row-put size none x listed table count h r =
     let c : count ≡ length listed = h .count-is in
     let t : table ≡ pad size none listed = h .table-is in
@@ -56,14 +57,16 @@ row-put size none x listed table count h r =
     let m : length listed < size = omega arith in
     record { table-is = rw (c, t) (pad-set size none listed x m); count-is = omega arith; room = omega arith }
 
-keyed-put : (size : ℕ) (entries : List Entry) (table : List ℕ) (k v : ℕ) → Keyed size entries table → k < size → 1 ≤ v → getD table k 0 ≡ 0 → Keyed size (entries ++ (record { key = k; value = v } ∷ [])) (set table k v)
+keyed-put : (size : ℕ) (entries : List Entry) (table : List ℕ) (k v : ℕ) → Keyed size entries table → k < size → 1 ≤ v → getD table k 0 ≡ 0 →
+    Keyed size (entries ++ (record { key = k; value = v } ∷ [])) (set table k v)
 keyed-put size entries table k v h r p z =
     let x : Entry = record { key = k; value = v } in
     let n : lookup k entries ≡ 0 = sym (h .each k) ∙ z in
     let s : length table ≡ size = h .size-is in
     record {
       size-is = rw (length-set table k v) s;
-      each = set-at table k v 0 (λ (i y : ℕ). y ≡ lookup i (entries ++ (x ∷ []))) (omega arith) (sym (lookup-new entries x (h .filled) n)) (λ i q. h .each i ∙ sym (lookup-other i entries x q));
+      each = set-at table k v 0 (λ (i y : ℕ). y ≡ lookup i (entries ++ (x ∷ []))) (omega arith) (sym (lookup-new entries x (h .filled) n))
+          (λ i q. h .each i ∙ sym (lookup-other i entries x q));
       distinct = rw (map-append keyOf entries (x ∷ [])) (distinct-snoc (map keyOf entries) k (h .distinct) (lookup-absent k entries (h .filled) n));
       filled = all-snoc (λ e. 1 ≤ e .value) entries x (h .filled) p;
     }
@@ -119,16 +122,19 @@ gpus-same : (rs : List Record) (r : Record) → ((n : ℕ) → gpuIn n r ≡ [])
 gpus-same rs r e = gpus-snoc 0 rs r ∙ rw (e (0 + length (sitesOf rs))) (append-nil (gpusOf rs))
 
 -- one record more, without fault, is put behind those before it, and nothing else changes
-pub holds-put : (rs : List Record) (t : Tables) (at : ℕ) (r : Record) → Holds rs t → Ranged r → isEnd r ≡ false → faultOf (t .setting) (t .told) at r ≡ Accepted → Holds (rs ++ (r ∷ [])) (putRecord t r)
+pub holds-put : (rs : List Record) (t : Tables) (at : ℕ) (r : Record) → Holds rs t → Ranged r → isEnd r ≡ false →
+    faultOf (t .setting) (t .told) at r ≡ Accepted → Holds (rs ++ (r ∷ [])) (putRecord t r)
 unfolding putNode putLimit putProfile oneGpu oneJob withOptions withSetting putCard putAsk putOptions
 holds-put rs t at R.End h g n f = let w : _≡_ {A = ℕ} 0 1 = cc in absurd (omega arith)
 holds-put rs t at (R.Node site) h g n f =
     record {
       ranged = all-snoc Ranged rs (R.Node site) (h .ranged) g;
       unended = all-snoc (λ x. isEnd x ≡ false) rs (R.Node site) (h .unended) refl;
-      nodes = rw (gather-snoc siteIn rs (R.Node site)) (row-put Sizes.nodes 0 site (sitesOf rs) (t .setting .sites) (t .setting .nodes) (h .nodes) (has-room (t .setting .nodes) Sizes.nodes at f));
+      nodes = rw (gather-snoc siteIn rs (R.Node site))
+          (row-put Sizes.nodes 0 site (sitesOf rs) (t .setting .sites) (t .setting .nodes) (h .nodes) (has-room (t .setting .nodes) Sizes.nodes at f));
       gpus = rw (gpus-same rs (R.Node site) (λ i. refl)) (h .gpus);
-      placed = rw (gpus-same rs (R.Node site) (λ i. refl)) (all-weaken (λ x. x .node < t .setting .nodes) (λ x. x .node < t .setting .nodes + 1) (gpusOf rs) (λ x l. omega arith) (h .placed));
+      placed = rw (gpus-same rs (R.Node site) (λ i. refl))
+          (all-weaken (λ x. x .node < t .setting .nodes) (λ x. x .node < t .setting .nodes + 1) (gpusOf rs) (λ x l. omega arith) (h .placed));
       jobs = rw (gather-same askIn rs (R.Node site) refl) (h .jobs);
       quotas = rw (gather-same quotaIn rs (R.Node site) refl) (h .quotas);
       mosts = rw (gather-same mostIn rs (R.Node site) refl) (h .mosts);
@@ -140,8 +146,12 @@ holds-put rs t at (R.Gpu card) h g n f =
       ranged = all-snoc Ranged rs (R.Gpu card) (h .ranged) g;
       unended = all-snoc (λ x. isEnd x ≡ false) rs (R.Gpu card) (h .unended) refl;
       nodes = rw (gather-same siteIn rs (R.Gpu card) refl) (h .nodes);
-      gpus = rw (gpus-snoc 0 rs (R.Gpu card), e) (row-put Sizes.gpus noGpu (gpuOf card (t .setting .nodes)) (gpusOf rs) (t .gpus) (t .setting .gpus) (h .gpus) (has-node (t .setting .nodes) (t .setting .gpus) at f .1));
-      placed = rw (gpus-snoc 0 rs (R.Gpu card), e) (all-snoc (λ x. x .node < t .setting .nodes) (gpusOf rs) (gpuOf card (t .setting .nodes)) (h .placed) (omega (arith, has-node (t .setting .nodes) (t .setting .gpus) at f .0)));
+      gpus = rw (gpus-snoc 0 rs (R.Gpu card), e)
+          (row-put Sizes.gpus noGpu (gpuOf card (t .setting .nodes)) (gpusOf rs) (t .gpus) (t .setting .gpus) (h .gpus)
+          (has-node (t .setting .nodes) (t .setting .gpus) at f .1));
+      placed = rw (gpus-snoc 0 rs (R.Gpu card), e)
+          (all-snoc (λ x. x .node < t .setting .nodes) (gpusOf rs) (gpuOf card (t .setting .nodes)) (h .placed)
+          (omega (arith, has-node (t .setting .nodes) (t .setting .gpus) at f .0)));
       jobs = rw (gather-same askIn rs (R.Gpu card) refl) (h .jobs);
       quotas = rw (gather-same quotaIn rs (R.Gpu card) refl) (h .quotas);
       mosts = rw (gather-same mostIn rs (R.Gpu card) refl) (h .mosts);
@@ -155,7 +165,9 @@ holds-put rs t at (R.Quota tenant quota) h g n f =
       gpus = rw (gpus-same rs (R.Quota tenant quota) (λ i. refl)) (h .gpus);
       placed = rw (gpus-same rs (R.Quota tenant quota) (λ i. refl)) (h .placed);
       jobs = rw (gather-same askIn rs (R.Quota tenant quota) refl) (h .jobs);
-      quotas = rw (gather-snoc quotaIn rs (R.Quota tenant quota)) (keyed-put Sizes.tenants (quotasOf rs) (t .setting .quotas) tenant (quota + 1) (h .quotas) (omega (arith, g .0)) (omega arith) (not-given (getD (t .setting .quotas) tenant 0) at f));
+      quotas = rw (gather-snoc quotaIn rs (R.Quota tenant quota))
+          (keyed-put Sizes.tenants (quotasOf rs) (t .setting .quotas) tenant (quota + 1) (h .quotas) (omega (arith, g .0)) (omega arith)
+          (not-given (getD (t .setting .quotas) tenant 0) at f));
       mosts = rw (gather-same mostIn rs (R.Quota tenant quota) refl) (h .mosts);
       options = rw (gather-same optionsIn rs (R.Quota tenant quota) refl) (h .options);
     }
@@ -168,7 +180,9 @@ holds-put rs t at (R.Profile profile most) h g n f =
       placed = rw (gpus-same rs (R.Profile profile most) (λ i. refl)) (h .placed);
       jobs = rw (gather-same askIn rs (R.Profile profile most) refl) (h .jobs);
       quotas = rw (gather-same quotaIn rs (R.Profile profile most) refl) (h .quotas);
-      mosts = rw (gather-snoc mostIn rs (R.Profile profile most)) (keyed-put Sizes.profiles (mostsOf rs) (t .setting .mosts) profile most (h .mosts) (omega (arith, g .0)) (g .1) (not-given (getD (t .setting .mosts) profile 0) at f));
+      mosts = rw (gather-snoc mostIn rs (R.Profile profile most))
+          (keyed-put Sizes.profiles (mostsOf rs) (t .setting .mosts) profile most (h .mosts) (omega (arith, g .0)) (g .1)
+          (not-given (getD (t .setting .mosts) profile 0) at f));
       options = rw (gather-same optionsIn rs (R.Profile profile most) refl) (h .options);
     }
 holds-put rs t at (R.Job ask) h g n f =
@@ -178,7 +192,8 @@ holds-put rs t at (R.Job ask) h g n f =
       nodes = rw (gather-same siteIn rs (R.Job ask) refl) (h .nodes);
       gpus = rw (gpus-same rs (R.Job ask) (λ i. refl)) (h .gpus);
       placed = rw (gpus-same rs (R.Job ask) (λ i. refl)) (h .placed);
-      jobs = rw (gather-snoc askIn rs (R.Job ask), map-append newJob (asksOf rs) (ask ∷ [])) (row-put Sizes.jobs noJob (newJob ask) (map newJob (asksOf rs)) (t .jobs) (t .setting .jobs) (h .jobs) (has-room (t .setting .jobs) Sizes.jobs at f));
+      jobs = rw (gather-snoc askIn rs (R.Job ask), map-append newJob (asksOf rs) (ask ∷ []))
+          (row-put Sizes.jobs noJob (newJob ask) (map newJob (asksOf rs)) (t .jobs) (t .setting .jobs) (h .jobs) (has-room (t .setting .jobs) Sizes.jobs at f));
       quotas = rw (gather-same quotaIn rs (R.Job ask) refl) (h .quotas);
       mosts = rw (gather-same mostIn rs (R.Job ask) refl) (h .mosts);
       options = rw (gather-same optionsIn rs (R.Job ask) refl) (h .options);

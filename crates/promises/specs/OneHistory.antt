@@ -41,10 +41,12 @@ record Front (trace : List ℕ) (k : ℕ) (h : List Decision) : Type 0 where
 
 module _ (trace : List ℕ) where
   -- an accepted step, told by the event and its numbers
-  pub step-on : {k : ℕ} {p : Plan} {h : List Decision} → Reached trace k p h → hasEvent p ≡ true → advanced p .ok ≡ true → Reached trace (k + 1) (advanced p .plan) (h ++ decisions (advanced p .log))
+  pub step-on : {k : ℕ} {p : Plan} {h : List Decision} → Reached trace k p h → hasEvent p ≡ true → advanced p .ok ≡ true →
+      Reached trace (k + 1) (advanced p .plan) (h ++ decisions (advanced p .log))
   step-on {k} {p} {h} r e f =
       let b : List ℕ = replicate 516 0 in
-      let s : record { answer = _; plan = advanced p .plan } ≡ stepped p (length b) = done-taken p b (omega (arith, length-replicate {A = ℕ} 516 0)) e (advanced p) refl _ f refl .0 in
+      let s : record { answer = _; plan = advanced p .plan } ≡ stepped p (length b) =
+      done-taken p b (omega (arith, length-replicate {A = ℕ} 516 0)) e (advanced p) refl _ f refl .0 in
       rw (ap (λ (x : Stepped). x .plan) s) (onward r b (ap (λ (x : Stepped). numberOf (x .answer)) (sym s)))
 
   -- After the same number of steps plan and decisions are the same, whatever buffers were lent.
@@ -64,10 +66,24 @@ module _ (trace : List ℕ) where
   front k n p h (begin e) l = let z : k ≡ 0 = omega arith in record { plan = load trace .plan; told = []; rest = []; reached = rw z (begin e); whole = refl }
   front k n p h (onward {k = m} {p = q} {h = g} r b e) l =
       ⊎-elim
-      (λ a. let z : k ≡ m + 1 = omega (arith, a, l) in record { plan = stepped q (length b) .plan; told = g ++ decisions (advanced q .log); rest = []; reached = rw z (onward r b e); whole = sym (append-nil (g ++ decisions (advanced q .log))) })
+      (λ a. let z : k ≡ m + 1 = omega (arith, a, l) in record {
+        plan = stepped q (length b) .plan;
+        told = g ++ decisions (advanced q .log);
+        rest = [];
+        reached = rw z (onward r b e);
+        whole =
+            sym (append-nil (g ++ decisions (advanced q .log)));
+      })
       (λ a.
       let f : Front trace k g = front k m q g r (omega (arith, a)) in
-      record { plan = f .plan; told = f .told; rest = f .rest ++ decisions (advanced q .log); reached = f .reached; whole = ap (λ (x : List Decision). x ++ decisions (advanced q .log)) (f .whole) ∙ append-assoc (f .told) (f .rest) (decisions (advanced q .log)) })
+      record {
+        plan = f .plan;
+        told = f .told;
+        rest = f .rest ++ decisions (advanced q .log);
+        reached = f .reached;
+        whole =
+            ap (λ (x : List Decision). x ++ decisions (advanced q .log)) (f .whole) ∙ append-assoc (f .told) (f .rest) (decisions (advanced q .log));
+      })
       (le-or-lt (m + 1) k)
 
   module _ (w : Whole trace) where

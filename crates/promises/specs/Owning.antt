@@ -1,32 +1,28 @@
 -- Ownership on every plan reached from a loaded trace: whoever owns a GPU or a slice is a running job, and a running job holds exactly what it asks for.
-use mathlib.Core.Path.{_≡_, refl, sym, ap, _∙_}
-use mathlib.Core.Logic.{⊎-elim}
-use mathlib.Core.Bool.{Bool, true, false, _&&_}
-use mathlib.Core.List.{List, [], _∷_, _++_}
+use mathlib.Core.Path.{_≡_, refl, ap}
+use mathlib.Core.Bool.{true}
+use mathlib.Core.List.{List, [], _∷_}
 use Prim.Native.Nat.{ℕ, _+_, _-_, _≤_, _<_}
 use native.Mathlib.Omega.{arith}
 use lib.Dec.{eqb}
-use lib.ListN.{length, getD}
-use Rattle.laws.specs.Choice.{pick, pick-cases, pick-either}
-use Rattle.laws.specs.Tests.{and-both, le-or-lt}
+use lib.ListN.{length}
+use Rattle.laws.specs.Choice.{pick-cases, pick-either}
+use Rattle.laws.specs.Tests.{and-both}
 use Rattle.laws.specs.Lists.{All, all-append}
 use Rattle.model.specs.declared.event.EventKind.{EventKind}
 use Rattle.model.specs.declared.event.EventKind.the-variants.{Empty, Arrival, Completion, Timeout}
 use Rattle.model.specs.declared.job.Job.{Job}
 use Rattle.model.specs.declared.job.JobState.the-variants.{Waiting, Running}
 use Rattle.model.specs.declared.plan.Plan.{Plan}
-use Rattle.model.specs.declared.setting.Setting.{Setting}
 use Rattle.log.specs.declared.Decision.{Decision}
 use Rattle.trace.specs.declared.answer.Answer.the-variants.{Accepted}
 use Rattle.trace.specs.declared.record.Record.{Record}
 use Rattle.trace.specs.declared.record.Record.the-variants as R
 use Rattle.loader.specs.Load.{load}
 use Rattle.cluster.specs.Usage.{runs}
-use Rattle.resource.specs.Cause.{mostOf}
 use Rattle.line.specs.Keep.{waitsIn}
 use Rattle.line.specs.Line.{newLine}
 use Rattle.apart.specs.LineLaws.{new-sized}
-use Rattle.starts.specs.Begin.{begunAll}
 use Rattle.happen.specs.Happen.{jobOf, stale, said, joins, arrives, completes, timesOut, ofRun, ofTimeout, completed, timedOut}
 use Rattle.happen.specs.declared.Moment.{Moment}
 use Rattle.engine.specs.Settle.{passOf, startsOf, withPass, settled}
@@ -113,7 +109,8 @@ settled-owning : (jobs₀ : List Job) (k : ℕ) (h : List Decision) (m : Moment)
 unfolding settled withPass startsOf passOf newLine
 settled-owning jobs₀ k h m a cuts o =
     let p : Plan = m .plan in
-    owners-settles (p .setting) (p .clock) (p .gpus) (p .jobs) (newLine (p .queue) (p .waiting) (p .totals) (m .log) (m .ok)) cuts (new-sized (p .queue) (p .waiting) (p .totals) (m .log) (m .ok) (a .between .queue) (a .table)) refl (o .0) (o .1) (p .setting .options) _ refl
+    owners-settles (p .setting) (p .clock) (p .gpus) (p .jobs) (newLine (p .queue) (p .waiting) (p .totals) (m .log) (m .ok)) cuts
+    (new-sized (p .queue) (p .waiting) (p .totals) (m .log) (m .ok) (a .between .queue) (a .table)) refl (o .0) (o .1) (p .setting .options) _ refl
 
 module _ (jobs₀ : List Job) (k : ℕ) (h : List Decision) (p : Plan) (b : Between jobs₀ k h p) (has : hasEvent p ≡ true) (o : Holding p) where
   taken : Between jobs₀ (k + 1) h (withEvent p)
@@ -136,8 +133,13 @@ module _ (jobs₀ : List Job) (k : ℕ) (h : List Decision) (p : Plan) (b : Betw
       (completes (withEvent p) (nextEvent p .job))
       (stale (withEvent p))
       (λ t.
-      let st : jobAt (withEvent p .jobs) (nextEvent p .job) .state ≡ Running = runs-only (jobAt (withEvent p .jobs) (nextEvent p .job) .state) (and-both (runs (jobAt (withEvent p .jobs) (nextEvent p .job) .state)) (eqb (jobAt (withEvent p .jobs) (nextEvent p .job) .run) (nextEvent p .generation)) t .0) in
-      completes-owning (withEvent p) (nextEvent p .job) (in-table (withEvent p .jobs) (nextEvent p .job) (taken .good .size) (arrived-not (jobAt (withEvent p .jobs) (nextEvent p .job) .state) (ap came st))) (event-owning p o))
+      let st : jobAt (withEvent p .jobs) (nextEvent p .job) .state ≡ Running =
+      runs-only (jobAt (withEvent p .jobs) (nextEvent p .job) .state)
+      (and-both (runs (jobAt (withEvent p .jobs) (nextEvent p .job) .state))
+      (eqb (jobAt (withEvent p .jobs) (nextEvent p .job) .run) (nextEvent p .generation)) t .0) in
+      completes-owning (withEvent p) (nextEvent p .job)
+      (in-table (withEvent p .jobs) (nextEvent p .job) (taken .good .size)
+      (arrived-not (jobAt (withEvent p .jobs) (nextEvent p .job) .state) (ap came st))) (event-owning p o))
       (λ f. stale-owning (withEvent p) (event-owning p o))
   kind-owning Timeout e =
       pick-cases
@@ -146,8 +148,13 @@ module _ (jobs₀ : List Job) (k : ℕ) (h : List Decision) (p : Plan) (b : Betw
       (timesOut (withEvent p) (nextEvent p .job))
       (stale (withEvent p))
       (λ t.
-      let st : jobAt (withEvent p .jobs) (nextEvent p .job) .state ≡ Waiting = waits-only (jobAt (withEvent p .jobs) (nextEvent p .job) .state) (and-both (waitsIn (jobAt (withEvent p .jobs) (nextEvent p .job) .state)) (eqb (jobAt (withEvent p .jobs) (nextEvent p .job) .timeouts) (nextEvent p .generation)) t .0) in
-      fails-owning (withEvent p) (nextEvent p .job) (in-table (withEvent p .jobs) (nextEvent p .job) (taken .good .size) (arrived-not (jobAt (withEvent p .jobs) (nextEvent p .job) .state) (ap came st))) st (event-owning p o))
+      let st : jobAt (withEvent p .jobs) (nextEvent p .job) .state ≡ Waiting =
+      waits-only (jobAt (withEvent p .jobs) (nextEvent p .job) .state)
+      (and-both (waitsIn (jobAt (withEvent p .jobs) (nextEvent p .job) .state))
+      (eqb (jobAt (withEvent p .jobs) (nextEvent p .job) .timeouts) (nextEvent p .generation)) t .0) in
+      fails-owning (withEvent p) (nextEvent p .job)
+      (in-table (withEvent p .jobs) (nextEvent p .job) (taken .good .size)
+      (arrived-not (jobAt (withEvent p .jobs) (nextEvent p .job) .state) (ap came st))) st (event-owning p o))
       (λ f. stale-owning (withEvent p) (event-owning p o))
 
   step-owning : Cuts (p .setting) → Holding (advanced p .plan)
@@ -155,14 +162,21 @@ module _ (jobs₀ : List Job) (k : ℕ) (h : List Decision) (p : Plan) (b : Betw
   step-owning cuts =
       let m : Moment = happened (withEvent p) (nextEvent p) in
       let e : m .plan .setting ≡ p .setting = happened-setting p in
-      pick-either (λ (x : Moment). Holding (x .plan)) (m .goes) (settled m) m (settled-owning jobs₀ (k + 1) h m (happened-amid jobs₀ k h p b has) (rw e cuts) (kind-owning (nextEvent p .kind) refl)) (kind-owning (nextEvent p .kind) refl)
+      pick-either (λ (x : Moment). Holding (x .plan)) (m .goes) (settled m) m
+      (settled-owning jobs₀ (k + 1) h m (happened-amid jobs₀ k h p b has) (rw e cuts) (kind-owning (nextEvent p .kind) refl)) (kind-owning (nextEvent p .kind) refl)
 
 -- ---- every plan reached
 
 pub reached-owning : (trace : List ℕ) (k : ℕ) (p : Plan) (h : List Decision) → Reached trace k p h → Cuts (p .setting) × Holding p
 reached-owning trace k p h (begin e) =
-    let r : Ready (load trace .plan) = load-ready trace e in
-    (load-cuts trace e, (owners-loaded (load trace .plan .setting .gpus) (load trace .plan .gpus) (load trace .plan .jobs) (r .gpu-size) (r .job-size) (r .no-gpu) (λ i. record { nobodys = r .idle i .0; uncut = r .idle i .2; slices = r .idle i .3 }) (r .pending), none-loaded (load trace .plan .jobs) (r .pending)))
+    let r : Ready (load trace .plan) = load-ready trace e in (
+      load-cuts trace e,
+      (
+        owners-loaded (load trace .plan .setting .gpus) (load trace .plan .gpus) (load trace .plan .jobs) (r .gpu-size)
+            (r .job-size) (r .no-gpu) (λ i. record { nobodys = r .idle i .0; uncut = r .idle i .2; slices = r .idle i .3 }) (r .pending),
+        none-loaded (load trace .plan .jobs) (r .pending),
+      ),
+    )
 reached-owning trace k p h (onward {k = n} {p = q} {h = g} r buffer e) =
     let b : Between (first trace .jobs) n g q × (q .setting ≡ first trace .setting) = reached-between trace n q g r in
     let o : Cuts (q .setting) × Holding q = reached-owning trace n q g r in

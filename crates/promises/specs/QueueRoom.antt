@@ -59,7 +59,9 @@ module _ (trace : List ℕ) (k : ℕ) (p : Plan) (h : List Decision) (r : Reache
   pub queue-is-who-waits : ((j : ℕ) → has j (inQueue p) ≡ waitsAt (p .jobs) j) × Distinct (inQueue p) × (length (inQueue p) ≡ p .waiting) × (p .waiting ≤ 128)
   queue-is-who-waits =
       let l : InLine p = in-line trace k p h r in
-      let who : (j : ℕ) → has j (inQueue p) ≡ waitsAt (p .jobs) j = λ j. split (waitsAt (p .jobs) j) (λ w. l .lined .all j w ∙ sym w) (λ w. fails (has j (inQueue p)) (λ t. never-both (has-all (Stands waitsIn (p .jobs)) j (inQueue p) (l .lined .each) t .1) w) ∙ sym w) in
+      let who : (j : ℕ) → has j (inQueue p) ≡ waitsAt (p .jobs) j =
+      λ j. split (waitsAt (p .jobs) j) (λ w. l .lined .all j w ∙ sym w)
+      (λ w. fails (has j (inQueue p)) (λ t. never-both (has-all (Stands waitsIn (p .jobs)) j (inQueue p) (l .lined .each) t .1) w) ∙ sym w) in
       (who, l .lined .once, sym (l .count), omega (arith, l .count, lined-few waitsIn (p .jobs) (inQueue p) (l .lined)))
 
   module _ (some : hasEvent p ≡ true) where
@@ -83,10 +85,12 @@ module _ (trace : List ℕ) (k : ℕ) (p : Plan) (h : List Decision) (r : Reache
     leaving-has-room = leaving-room (first trace .jobs) (k + 1) h (done p) moment in-line-then
 
     -- When it is over all its victims stand behind those that waited, and as many more are counted.
-    pub no-victim-lost : (queueOf (passOf (done p) .line) ≡ waited (done p) ++ victimsOf (passOf (done p) .line)) × (passOf (done p) .line .waiting ≡ done p .plan .waiting + passOf (done p) .line .evicted) × (passOf (done p) .line .waiting ≤ 128)
+    pub no-victim-lost : (queueOf (passOf (done p) .line) ≡ waited (done p) ++ victimsOf (passOf (done p) .line)) ×
+        (passOf (done p) .line .waiting ≡ done p .plan .waiting + passOf (done p) .line .evicted) × (passOf (done p) .line .waiting ≤ 128)
     no-victim-lost =
         let o : Standing (passOf (done p)) × PassLined (waited (done p)) (passOf (done p)) = pass-line (first trace .jobs) (k + 1) h (done p) moment in-line-then in
-        let n : length (queueOf (passOf (done p) .line)) ≡ length (waited (done p)) + length (victimsOf (passOf (done p) .line)) = ap length (o .1 .behind) ∙ length-append (waited (done p)) (victimsOf (passOf (done p) .line)) in
+        let n : length (queueOf (passOf (done p) .line)) ≡ length (waited (done p)) + length (victimsOf (passOf (done p) .line)) =
+        ap length (o .1 .behind) ∙ length-append (waited (done p)) (victimsOf (passOf (done p) .line)) in
         let w : length (waited (done p)) ≡ done p .plan .waiting = waited-length (first trace .jobs) (k + 1) h (done p) moment in-line-then in
         let f : length (queueOf (passOf (done p) .line)) ≤ 128 = lined-few waitsOrPlaced (passOf (done p) .jobs) (queueOf (passOf (done p) .line)) (o .1 .lined) in
         (o .1 .behind, omega (arith, o .1 .count, n, w, o .0 .evicted), omega (arith, o .1 .count, f))

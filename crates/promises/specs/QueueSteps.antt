@@ -82,21 +82,26 @@ arrival-room p id small pending l =
     omega (arith, l .count, join-room waitsIn (p .jobs) (inQueue p) (id ∷ []) (l .lined) (tt, tt) (ap waitsIn pending, tt) (small, tt))
 
 -- it stands at the queue's end, and is counted
-pub arrival-joins : (p : Plan) (id : ℕ) → length (p .queue) ≡ 128 → p .waiting < 128 → (inQueue (arrives p id .plan) ≡ inQueue p ++ (id ∷ [])) × (arrives p id .plan .waiting ≡ p .waiting + 1)
+pub arrival-joins : (p : Plan) (id : ℕ) → length (p .queue) ≡ 128 → p .waiting < 128 →
+    (inQueue (arrives p id .plan) ≡ inQueue p ++ (id ∷ [])) × (arrives p id .plan .waiting ≡ p .waiting + 1)
 unfolding arrives said joins
 arrival-joins p id qs room = (onward-take (p .queue) (p .waiting) 128 id qs room, onward-room (p .waiting) 128 room)
 
-line-arrives : (p : Plan) (id : ℕ) → length (p .queue) ≡ 128 → length (p .jobs) ≡ 128 → id < 128 → jobAt (p .jobs) id .state ≡ Pending → InLine p → InLine (arrives p id .plan)
+line-arrives : (p : Plan) (id : ℕ) → length (p .queue) ≡ 128 → length (p .jobs) ≡ 128 → id < 128 → jobAt (p .jobs) id .state ≡ Pending → InLine p →
+    InLine (arrives p id .plan)
 unfolding arrives said joins Life.waits
 line-arrives p id qs js small pending l =
     let j : Job = Life.waits (jobOf p id) (p .clock) in
     let q : List ℕ = inQueue p in
-    let e : (inQueue (arrives p id .plan) ≡ q ++ (id ∷ [])) × (arrives p id .plan .waiting ≡ p .waiting + 1) = arrival-joins p id qs (arrival-room p id small pending l) in
+    let e : (inQueue (arrives p id .plan) ≡ q ++ (id ∷ [])) × (arrives p id .plan .waiting ≡ p .waiting + 1) =
+    arrival-joins p id qs (arrival-room p id small pending l) in
     let n : length (inQueue (arrives p id .plan)) ≡ length q + 1 = ap length (e .0) ∙ length-append q (id ∷ []) in
     let there : jobAt (set (p .jobs) id j) id ≡ j = getD-set-same (p .jobs) id j noJob (omega (arith, js, small)) in
-    let others : (k : ℕ) → has k (id ∷ []) ≡ false → jobAt (set (p .jobs) id j) k ≡ jobAt (p .jobs) k = λ k h. getD-set-other (p .jobs) id k j noJob (λ s. never-both (eq-eqb k id s) (or-none (eqb k id) false h .0)) in
+    let others : (k : ℕ) → has k (id ∷ []) ≡ false → jobAt (set (p .jobs) id j) k ≡ jobAt (p .jobs) k =
+    λ k h. getD-set-other (p .jobs) id k j noJob (λ s. never-both (eq-eqb k id s) (or-none (eqb k id) false h .0)) in
     record {
-      lined = rw (e .0) (lined-joined waitsIn (p .jobs) q (id ∷ []) (l .lined) (tt, tt) (ap waitsIn pending, tt) (set (p .jobs) id j) ((small, ap (λ (x : Job). waits x) there), tt) others);
+      lined = rw (e .0) (lined-joined waitsIn (p .jobs) q (id ∷ []) (l .lined) (tt, tt) (ap waitsIn pending, tt) (set (p .jobs) id j)
+          ((small, ap (λ (x : Job). waits x) there), tt) others);
       count = omega (arith, e .1, n, l .count);
     }
 
@@ -105,7 +110,9 @@ unfolding completes said Life.ends
 line-completes p id run l =
     let j : Job = Life.ends (jobOf p id) in
     record {
-      lined = lined-changed waitsIn waitsIn (p .jobs) (set (p .jobs) id j) (inQueue p) (λ k. set-related (p .jobs) id j noJob (λ a b. waits a ≡ true → waits b ≡ true) (λ x h. h) (λ h. absurd (never-both h (ap waitsIn run))) k) (set-waits (p .jobs) id j refl) (l .lined);
+      lined = lined-changed waitsIn waitsIn (p .jobs) (set (p .jobs) id j) (inQueue p)
+          (λ k. set-related (p .jobs) id j noJob (λ a b. waits a ≡ true → waits b ≡ true) (λ x h. h) (λ h. absurd (never-both h (ap waitsIn run))) k)
+          (set-waits (p .jobs) id j refl) (l .lined);
       count = l .count;
     }
 
@@ -156,7 +163,8 @@ module _ (jobs₀ : List Job) (k : ℕ) (h : List Decision) (m : Moment) (a : Am
   -- as many as were counted
   pub waited-length : length (waited m) ≡ m .plan .waiting
   waited-length =
-      length-take-le (m .plan .waiting) (sortedQueue (m .plan .jobs) (m .plan .queue) (m .plan .waiting)) (omega (arith, fits, sorted-length (m .plan .jobs) (m .plan .queue) (m .plan .waiting)))
+      length-take-le (m .plan .waiting) (sortedQueue (m .plan .jobs) (m .plan .queue) (m .plan .waiting))
+      (omega (arith, fits, sorted-length (m .plan .jobs) (m .plan .queue) (m .plan .waiting)))
 
   -- all along the victims stand behind those that waited
   pub looked-line : (n : ℕ) → Standing (looked m n) × PassLined (waited m) (looked m n)
@@ -167,7 +175,8 @@ module _ (jobs₀ : List Job) (k : ℕ) (h : List Decision) (m : Moment) (a : Am
       let sized : Sized line = new-sized (p .queue) (p .waiting) (p .totals) (m .log) (m .ok) (a .between .queue) (a .table) in
       let begins : PassLined (waited m) (sorted (fresh m)) =
       record {
-        lined = lined-changed waitsIn waitsOrPlaced (p .jobs) (p .jobs) (waited m) (λ i w. may-stand (jobAt (p .jobs) i .state) w) (λ i w. w) (lined-sorted waitsIn (p .jobs) (p .queue) (p .waiting) fits (l .lined));
+        lined = lined-changed waitsIn waitsOrPlaced (p .jobs) (p .jobs) (waited m) (λ i w. may-stand (jobAt (p .jobs) i .state) w) (λ i w. w)
+            (lined-sorted waitsIn (p .jobs) (p .queue) (p .waiting) fits (l .lined));
         count = sym waited-length;
         behind = sym (append-nil (waited m));
       } in
@@ -185,7 +194,8 @@ module _ (jobs₀ : List Job) (k : ℕ) (h : List Decision) (m : Moment) (a : Am
   leaving-room n id =
       let s : Setting = m .plan .setting in
       let clock : Float = m .plan .clock in
-      leave-room s clock (waited m) (looked m n) id (leaving s clock (looked m n) id) (looked-line n .0) (leaving-may s clock (looked m n) id) (leaving-once s clock (looked m n) id) (looked-line n .1)
+      leave-room s clock (waited m) (looked m n) id (leaving s clock (looked m n) id) (looked-line n .0) (leaving-may s clock (looked m n) id)
+      (leaving-once s clock (looked m n) id) (looked-line n .1)
 
   -- when the pass is over
   pub pass-line : Standing (passOf m) × PassLined (waited m) (passOf m)
@@ -199,14 +209,16 @@ module _ (jobs₀ : List Job) (k : ℕ) (h : List Decision) (m : Moment) (a : Am
       let b : _ = startsOf (m .plan) q in
       let left : List ℕ = stillWaiting (b .jobs) (q .line .queue) (q .line .waiting) in
       record {
-        lined = rw (pad-take 128 0 left) (lined-left waitsOrPlaced (q .jobs) (b .jobs) (q .line .queue) (q .line .waiting) (λ i. starts-wait (m .plan .setting .options) (m .plan .clock) i _ (take (q .count) (q .placed))) (pass-line .1 .lined));
+        lined = rw (pad-take 128 0 left) (lined-left waitsOrPlaced (q .jobs) (b .jobs) (q .line .queue) (q .line .waiting)
+            (λ i. starts-wait (m .plan .setting .options) (m .plan .clock) i _ (take (q .count) (q .placed))) (pass-line .1 .lined));
         count = left-count left;
       }
 
 -- ---- the step
 
 -- the job that arrives is in the table and pending
-pub arrival-pending : (jobs₀ : List Job) (k : ℕ) (h : List Decision) (p : Plan) → Between jobs₀ k h p → hasEvent p ≡ true → nextEvent p .kind ≡ Arrival → (nextEvent p .job < 128) × (jobAt (p .jobs) (nextEvent p .job) .state ≡ Pending)
+pub arrival-pending : (jobs₀ : List Job) (k : ℕ) (h : List Decision) (p : Plan) → Between jobs₀ k h p → hasEvent p ≡ true →
+    nextEvent p .kind ≡ Arrival → (nextEvent p .job < 128) × (jobAt (p .jobs) (nextEvent p .job) .state ≡ Pending)
 arrival-pending jobs₀ k h p b some e =
     let f : _ = arrival-facts jobs₀ k h p b some e in
     (omega (arith, f .0, b .loaded), not-came (jobAt (p .jobs) (nextEvent p .job) .state) (f .2))
@@ -228,7 +240,10 @@ module _ (jobs₀ : List Job) (k : ℕ) (h : List Decision) (p : Plan) (b : Betw
       (ofRun (jobOf (withEvent p) (nextEvent p .job)) (nextEvent p .generation))
       (completes (withEvent p) (nextEvent p .job))
       (stale (withEvent p))
-      (λ t. line-completes (withEvent p) (nextEvent p .job) (runs-only (jobAt (withEvent p .jobs) (nextEvent p .job) .state) (and-both (runs (jobAt (withEvent p .jobs) (nextEvent p .job) .state)) (eqb (jobAt (withEvent p .jobs) (nextEvent p .job) .run) (nextEvent p .generation)) t .0)) (line-event p l))
+      (λ t. line-completes (withEvent p) (nextEvent p .job)
+      (runs-only (jobAt (withEvent p .jobs) (nextEvent p .job) .state)
+      (and-both (runs (jobAt (withEvent p .jobs) (nextEvent p .job) .state))
+      (eqb (jobAt (withEvent p .jobs) (nextEvent p .job) .run) (nextEvent p .generation)) t .0)) (line-event p l))
       (λ f. line-stale (withEvent p) (line-event p l))
   line-kind Timeout e =
       pick-either
@@ -247,4 +262,5 @@ module _ (jobs₀ : List Job) (k : ℕ) (h : List Decision) (p : Plan) (b : Betw
   unfolding advanced
   line-step =
       let m : Moment = happened (withEvent p) (nextEvent p) in
-      pick-either (λ (x : Moment). InLine (x .plan)) (m .goes) (settled m) m (line-settled jobs₀ (k + 1) h m (happened-amid jobs₀ k h p b some) line-happened) line-happened
+      pick-either (λ (x : Moment). InLine (x .plan)) (m .goes) (settled m) m
+      (line-settled jobs₀ (k + 1) h m (happened-amid jobs₀ k h p b some) line-happened) line-happened

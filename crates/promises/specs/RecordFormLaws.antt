@@ -42,7 +42,8 @@ numbersOf (Node site) = 1 ∷ site ∷ []
 numbersOf (Gpu c) = 2 ∷ c .kind ∷ bitsOf (c .memory) ∷ c .group ∷ bit (c .mig) ∷ []
 numbersOf (Quota tenant quota) = 3 ∷ tenant ∷ quota ∷ []
 numbersOf (Profile profile most) = 4 ∷ profile ∷ most ∷ []
-numbersOf (Job a) = 5 ∷ bitsOf (a .arrival) ∷ bitsOf (a .duration) ∷ storedOf (a .priority) ∷ a .count ∷ bitsOf (a .memory) ∷ a .kind ∷ a .site ∷ a .tenant ∷ bit (a .gang) ∷ a .nodes ∷ bit (a .network) ∷ bitsOf (a .timeout) ∷ a .profile ∷ a .slices ∷ []
+numbersOf (Job a) = 5 ∷ bitsOf (a .arrival) ∷ bitsOf (a .duration) ∷ storedOf (a .priority) ∷ a .count ∷ bitsOf (a .memory) ∷ a .kind ∷ a .site ∷
+    a .tenant ∷ bit (a .gang) ∷ a .nodes ∷ bit (a .network) ∷ bitsOf (a .timeout) ∷ a .profile ∷ a .slices ∷ []
 numbersOf (Options o) = 6 ∷ bitsOf (o .seconds) ∷ bitsOf (o .penalty) ∷ bitsOf (o .multiplier) ∷ bit (o .best) ∷ bit (o .aware) ∷ []
 
 -- the bytes of a record
@@ -75,7 +76,8 @@ Ranged (Gpu c) = (c .kind ≤ Ranges.types) × (bitsOf (c .memory) ≤ permitted
 Ranged (Quota tenant quota) = (tenant ≤ Ranges.tenants) × (quota ≤ Ranges.quotas)
 Ranged (Profile profile most) = (profile ≤ Ranges.profiles) × (1 ≤ most) × (most ≤ Ranges.mosts)
 Ranged (Job a) = AskRanged a
-Ranged (Options o) = (bitsOf (o .seconds) ≤ permittedBits) × (bitsOf (o .penalty) ≤ permittedBits) × (Ranges.leastMultiplier ≤ bitsOf (o .multiplier)) × (bitsOf (o .multiplier) ≤ Ranges.multipliers)
+Ranged (Options o) = (bitsOf (o .seconds) ≤ permittedBits) × (bitsOf (o .penalty) ≤ permittedBits) ×
+    (Ranges.leastMultiplier ≤ bitsOf (o .multiplier)) × (bitsOf (o .multiplier) ≤ Ranges.multipliers)
 
 -- ---- what was stored comes back
 
@@ -139,9 +141,12 @@ gpu-whole s k e =
     let group-in : Found s (memory .end) 0 Ranges.groups group = group-is .1 in
     let mig-in : Found s (group .end) 0 Ranges.flag mig = mig-is .1 in
     let kind-said : Said s (2 ∷ kind .value ∷ []) (kind .end) = said-next s (2 ∷ []) 1 0 Ranges.types kind k kind-in in
-    let memory-said : Said s (2 ∷ kind .value ∷ memory .value ∷ []) (memory .end) = said-next s (2 ∷ kind .value ∷ []) (kind .end) 0 permittedBits memory kind-said memory-in in
-    let group-said : Said s (2 ∷ kind .value ∷ memory .value ∷ group .value ∷ []) (group .end) = said-next s (2 ∷ kind .value ∷ memory .value ∷ []) (memory .end) 0 Ranges.groups group memory-said group-in in
-    let mig-said : Said s (2 ∷ kind .value ∷ memory .value ∷ group .value ∷ mig .value ∷ []) (mig .end) = said-next s (2 ∷ kind .value ∷ memory .value ∷ group .value ∷ []) (group .end) 0 Ranges.flag mig group-said mig-in in
+    let memory-said : Said s (2 ∷ kind .value ∷ memory .value ∷ []) (memory .end) =
+    said-next s (2 ∷ kind .value ∷ []) (kind .end) 0 permittedBits memory kind-said memory-in in
+    let group-said : Said s (2 ∷ kind .value ∷ memory .value ∷ group .value ∷ []) (group .end) =
+    said-next s (2 ∷ kind .value ∷ memory .value ∷ []) (memory .end) 0 Ranges.groups group memory-said group-in in
+    let mig-said : Said s (2 ∷ kind .value ∷ memory .value ∷ group .value ∷ mig .value ∷ []) (mig .end) =
+    said-next s (2 ∷ kind .value ∷ memory .value ∷ group .value ∷ []) (group .end) 0 Ranges.flag mig group-said mig-in in
     let memory-back : toBits binary64 (ofBits binary64 (memory .value)) ≡ memory .value = bits-back (memory .value) (memory-in .high) in
     let mig-back : bit (eqb (mig .value) 1) ≡ mig .value = flag-back (mig .value) (mig-in .high) in
     record { ranged = (kind-in .high, rw memory-back (memory-in .high), group-in .high); said = rw (memory-back, mig-back) mig-said }
@@ -155,7 +160,8 @@ quota-whole s k e =
     let tenant-in : Found s 1 0 Ranges.tenants tenant = field-found s 1 0 Ranges.tenants (quota-is .0) in
     let quota-in : Found s (tenant .end) 0 Ranges.quotas quota = quota-is .1 in
     let tenant-said : Said s (3 ∷ tenant .value ∷ []) (tenant .end) = said-next s (3 ∷ []) 1 0 Ranges.tenants tenant k tenant-in in
-    let quota-said : Said s (3 ∷ tenant .value ∷ quota .value ∷ []) (quota .end) = said-next s (3 ∷ tenant .value ∷ []) (tenant .end) 0 Ranges.quotas quota tenant-said quota-in in
+    let quota-said : Said s (3 ∷ tenant .value ∷ quota .value ∷ []) (quota .end) =
+    said-next s (3 ∷ tenant .value ∷ []) (tenant .end) 0 Ranges.quotas quota tenant-said quota-in in
     record { ranged = (tenant-in .high, quota-in .high); said = quota-said }
 
 profile-whole : (s : List ℕ) → Said s (4 ∷ []) 1 → profileRead s .answer ≡ Accepted → Whole s (profileRead s)
@@ -167,7 +173,8 @@ profile-whole s k e =
     let profile-in : Found s 1 0 Ranges.profiles profile = field-found s 1 0 Ranges.profiles (most-is .0) in
     let most-in : Found s (profile .end) 1 Ranges.mosts most = most-is .1 in
     let profile-said : Said s (4 ∷ profile .value ∷ []) (profile .end) = said-next s (4 ∷ []) 1 0 Ranges.profiles profile k profile-in in
-    let most-said : Said s (4 ∷ profile .value ∷ most .value ∷ []) (most .end) = said-next s (4 ∷ profile .value ∷ []) (profile .end) 1 Ranges.mosts most profile-said most-in in
+    let most-said : Said s (4 ∷ profile .value ∷ most .value ∷ []) (most .end) =
+    said-next s (4 ∷ profile .value ∷ []) (profile .end) 1 Ranges.mosts most profile-said most-in in
     record { ranged = (profile-in .high, most-in .low, most-in .high); said = most-said }
 
 job-whole : (s : List ℕ) → Said s (5 ∷ []) 1 → jobRead s .answer ≡ Accepted → Whole s (jobRead s)
@@ -187,7 +194,8 @@ job-whole s k e =
     let timeout : Field = next s network 0 permittedBits in
     let profile : Field = next s timeout 0 Ranges.profilesAsked in
     let slices : Field = next s profile (leastSlices (profile .value)) (mostSlices (profile .value)) in
-    let slices-is : (profile .answer ≡ Accepted) × Found s (profile .end) (leastSlices (profile .value)) (mostSlices (profile .value)) slices = next-found s profile (leastSlices (profile .value)) (mostSlices (profile .value)) e in
+    let slices-is : (profile .answer ≡ Accepted) × Found s (profile .end) (leastSlices (profile .value)) (mostSlices (profile .value)) slices =
+    next-found s profile (leastSlices (profile .value)) (mostSlices (profile .value)) e in
     let profile-is : (timeout .answer ≡ Accepted) × Found s (timeout .end) 0 Ranges.profilesAsked profile = next-found s timeout 0 Ranges.profilesAsked (slices-is .0) in
     let timeout-is : (network .answer ≡ Accepted) × Found s (network .end) 0 permittedBits timeout = next-found s network 0 permittedBits (profile-is .0) in
     let network-is : (nodes .answer ≡ Accepted) × Found s (nodes .end) 0 Ranges.flag network = next-found s nodes 0 Ranges.flag (timeout-is .0) in
@@ -215,19 +223,49 @@ job-whole s k e =
     let profile-in : Found s (timeout .end) 0 Ranges.profilesAsked profile = profile-is .1 in
     let slices-in : Found s (profile .end) (leastSlices (profile .value)) (mostSlices (profile .value)) slices = slices-is .1 in
     let arrival-said : Said s (5 ∷ arrival .value ∷ []) (arrival .end) = said-next s (5 ∷ []) 1 0 permittedBits arrival k arrival-in in
-    let duration-said : Said s (5 ∷ arrival .value ∷ duration .value ∷ []) (duration .end) = said-next s (5 ∷ arrival .value ∷ []) (arrival .end) 0 permittedBits duration arrival-said duration-in in
-    let priority-said : Said s (5 ∷ arrival .value ∷ duration .value ∷ priority .value ∷ []) (priority .end) = said-next s (5 ∷ arrival .value ∷ duration .value ∷ []) (duration .end) 0 Ranges.priorities priority duration-said priority-in in
-    let count-said : Said s (5 ∷ arrival .value ∷ duration .value ∷ priority .value ∷ count .value ∷ []) (count .end) = said-next s (5 ∷ arrival .value ∷ duration .value ∷ priority .value ∷ []) (priority .end) 0 Ranges.counts count priority-said count-in in
-    let memory-said : Said s (5 ∷ arrival .value ∷ duration .value ∷ priority .value ∷ count .value ∷ memory .value ∷ []) (memory .end) = said-next s (5 ∷ arrival .value ∷ duration .value ∷ priority .value ∷ count .value ∷ []) (count .end) 0 permittedBits memory count-said memory-in in
-    let kind-said : Said s (5 ∷ arrival .value ∷ duration .value ∷ priority .value ∷ count .value ∷ memory .value ∷ kind .value ∷ []) (kind .end) = said-next s (5 ∷ arrival .value ∷ duration .value ∷ priority .value ∷ count .value ∷ memory .value ∷ []) (memory .end) 0 Ranges.typesAsked kind memory-said kind-in in
-    let site-said : Said s (5 ∷ arrival .value ∷ duration .value ∷ priority .value ∷ count .value ∷ memory .value ∷ kind .value ∷ site .value ∷ []) (site .end) = said-next s (5 ∷ arrival .value ∷ duration .value ∷ priority .value ∷ count .value ∷ memory .value ∷ kind .value ∷ []) (kind .end) 0 Ranges.sites site kind-said site-in in
-    let tenant-said : Said s (5 ∷ arrival .value ∷ duration .value ∷ priority .value ∷ count .value ∷ memory .value ∷ kind .value ∷ site .value ∷ tenant .value ∷ []) (tenant .end) = said-next s (5 ∷ arrival .value ∷ duration .value ∷ priority .value ∷ count .value ∷ memory .value ∷ kind .value ∷ site .value ∷ []) (site .end) 0 Ranges.tenantsAsked tenant site-said tenant-in in
-    let gang-said : Said s (5 ∷ arrival .value ∷ duration .value ∷ priority .value ∷ count .value ∷ memory .value ∷ kind .value ∷ site .value ∷ tenant .value ∷ gang .value ∷ []) (gang .end) = said-next s (5 ∷ arrival .value ∷ duration .value ∷ priority .value ∷ count .value ∷ memory .value ∷ kind .value ∷ site .value ∷ tenant .value ∷ []) (tenant .end) 0 Ranges.flag gang tenant-said gang-in in
-    let nodes-said : Said s (5 ∷ arrival .value ∷ duration .value ∷ priority .value ∷ count .value ∷ memory .value ∷ kind .value ∷ site .value ∷ tenant .value ∷ gang .value ∷ nodes .value ∷ []) (nodes .end) = said-next s (5 ∷ arrival .value ∷ duration .value ∷ priority .value ∷ count .value ∷ memory .value ∷ kind .value ∷ site .value ∷ tenant .value ∷ gang .value ∷ []) (gang .end) 0 Ranges.gangNodes nodes gang-said nodes-in in
-    let network-said : Said s (5 ∷ arrival .value ∷ duration .value ∷ priority .value ∷ count .value ∷ memory .value ∷ kind .value ∷ site .value ∷ tenant .value ∷ gang .value ∷ nodes .value ∷ network .value ∷ []) (network .end) = said-next s (5 ∷ arrival .value ∷ duration .value ∷ priority .value ∷ count .value ∷ memory .value ∷ kind .value ∷ site .value ∷ tenant .value ∷ gang .value ∷ nodes .value ∷ []) (nodes .end) 0 Ranges.flag network nodes-said network-in in
-    let timeout-said : Said s (5 ∷ arrival .value ∷ duration .value ∷ priority .value ∷ count .value ∷ memory .value ∷ kind .value ∷ site .value ∷ tenant .value ∷ gang .value ∷ nodes .value ∷ network .value ∷ timeout .value ∷ []) (timeout .end) = said-next s (5 ∷ arrival .value ∷ duration .value ∷ priority .value ∷ count .value ∷ memory .value ∷ kind .value ∷ site .value ∷ tenant .value ∷ gang .value ∷ nodes .value ∷ network .value ∷ []) (network .end) 0 permittedBits timeout network-said timeout-in in
-    let profile-said : Said s (5 ∷ arrival .value ∷ duration .value ∷ priority .value ∷ count .value ∷ memory .value ∷ kind .value ∷ site .value ∷ tenant .value ∷ gang .value ∷ nodes .value ∷ network .value ∷ timeout .value ∷ profile .value ∷ []) (profile .end) = said-next s (5 ∷ arrival .value ∷ duration .value ∷ priority .value ∷ count .value ∷ memory .value ∷ kind .value ∷ site .value ∷ tenant .value ∷ gang .value ∷ nodes .value ∷ network .value ∷ timeout .value ∷ []) (timeout .end) 0 Ranges.profilesAsked profile timeout-said profile-in in
-    let slices-said : Said s (5 ∷ arrival .value ∷ duration .value ∷ priority .value ∷ count .value ∷ memory .value ∷ kind .value ∷ site .value ∷ tenant .value ∷ gang .value ∷ nodes .value ∷ network .value ∷ timeout .value ∷ profile .value ∷ slices .value ∷ []) (slices .end) = said-next s (5 ∷ arrival .value ∷ duration .value ∷ priority .value ∷ count .value ∷ memory .value ∷ kind .value ∷ site .value ∷ tenant .value ∷ gang .value ∷ nodes .value ∷ network .value ∷ timeout .value ∷ profile .value ∷ []) (profile .end) (leastSlices (profile .value)) (mostSlices (profile .value)) slices profile-said slices-in in
+    let duration-said : Said s (5 ∷ arrival .value ∷ duration .value ∷ []) (duration .end) =
+    said-next s (5 ∷ arrival .value ∷ []) (arrival .end) 0 permittedBits duration arrival-said duration-in in
+    let priority-said : Said s (5 ∷ arrival .value ∷ duration .value ∷ priority .value ∷ []) (priority .end) =
+    said-next s (5 ∷ arrival .value ∷ duration .value ∷ []) (duration .end) 0 Ranges.priorities priority duration-said priority-in in
+    let count-said : Said s (5 ∷ arrival .value ∷ duration .value ∷ priority .value ∷ count .value ∷ []) (count .end) =
+    said-next s (5 ∷ arrival .value ∷ duration .value ∷ priority .value ∷ []) (priority .end) 0 Ranges.counts count priority-said count-in in
+    let memory-said : Said s (5 ∷ arrival .value ∷ duration .value ∷ priority .value ∷ count .value ∷ memory .value ∷ []) (memory .end) =
+    said-next s (5 ∷ arrival .value ∷ duration .value ∷ priority .value ∷ count .value ∷ []) (count .end) 0 permittedBits memory count-said memory-in in
+    let kind-said : Said s (5 ∷ arrival .value ∷ duration .value ∷ priority .value ∷ count .value ∷ memory .value ∷ kind .value ∷ []) (kind .end) =
+    said-next s (5 ∷ arrival .value ∷ duration .value ∷ priority .value ∷ count .value ∷ memory .value ∷ []) (memory .end) 0 Ranges.typesAsked
+    kind memory-said kind-in in
+    let site-said : Said s (5 ∷ arrival .value ∷ duration .value ∷ priority .value ∷ count .value ∷ memory .value ∷ kind .value ∷ site .value ∷ [])
+    (site .end) = said-next s (5 ∷ arrival .value ∷ duration .value ∷ priority .value ∷ count .value ∷ memory .value ∷ kind .value ∷ [])
+    (kind .end) 0 Ranges.sites site kind-said site-in in
+    let tenant-said : Said s (5 ∷ arrival .value ∷ duration .value ∷ priority .value ∷ count .value ∷ memory .value ∷ kind .value ∷ site .value ∷
+    tenant .value ∷ []) (tenant .end) = said-next s
+    (5 ∷ arrival .value ∷ duration .value ∷ priority .value ∷ count .value ∷ memory .value ∷ kind .value ∷ site .value ∷ []) (site .end) 0
+    Ranges.tenantsAsked tenant site-said tenant-in in
+    let gang-said : Said s (5 ∷ arrival .value ∷ duration .value ∷ priority .value ∷ count .value ∷ memory .value ∷ kind .value ∷ site .value ∷
+    tenant .value ∷ gang .value ∷ []) (gang .end) =
+    said-next s (5 ∷ arrival .value ∷ duration .value ∷ priority .value ∷ count .value ∷ memory .value ∷ kind .value ∷ site .value ∷
+    tenant .value ∷ []) (tenant .end) 0 Ranges.flag gang tenant-said gang-in in
+    let nodes-said : Said s (5 ∷ arrival .value ∷ duration .value ∷ priority .value ∷ count .value ∷ memory .value ∷ kind .value ∷ site .value ∷
+    tenant .value ∷ gang .value ∷ nodes .value ∷ []) (nodes .end) =
+    said-next s (5 ∷ arrival .value ∷ duration .value ∷ priority .value ∷ count .value ∷ memory .value ∷ kind .value ∷ site .value ∷
+    tenant .value ∷ gang .value ∷ []) (gang .end) 0 Ranges.gangNodes nodes gang-said nodes-in in
+    let network-said : Said s (5 ∷ arrival .value ∷ duration .value ∷ priority .value ∷ count .value ∷ memory .value ∷ kind .value ∷ site .value ∷
+    tenant .value ∷ gang .value ∷ nodes .value ∷ network .value ∷ []) (network .end) =
+    said-next s (5 ∷ arrival .value ∷ duration .value ∷ priority .value ∷ count .value ∷ memory .value ∷ kind .value ∷ site .value ∷
+    tenant .value ∷ gang .value ∷ nodes .value ∷ []) (nodes .end) 0 Ranges.flag network nodes-said network-in in
+    let timeout-said : Said s (5 ∷ arrival .value ∷ duration .value ∷ priority .value ∷ count .value ∷ memory .value ∷ kind .value ∷ site .value ∷
+    tenant .value ∷ gang .value ∷ nodes .value ∷ network .value ∷ timeout .value ∷ []) (timeout .end) =
+    said-next s (5 ∷ arrival .value ∷ duration .value ∷ priority .value ∷ count .value ∷ memory .value ∷ kind .value ∷ site .value ∷
+    tenant .value ∷ gang .value ∷ nodes .value ∷ network .value ∷ []) (network .end) 0 permittedBits timeout network-said timeout-in in
+    let profile-said : Said s (5 ∷ arrival .value ∷ duration .value ∷ priority .value ∷ count .value ∷ memory .value ∷ kind .value ∷ site .value ∷
+    tenant .value ∷ gang .value ∷ nodes .value ∷ network .value ∷ timeout .value ∷ profile .value ∷ []) (profile .end) =
+    said-next s (5 ∷ arrival .value ∷ duration .value ∷ priority .value ∷ count .value ∷ memory .value ∷ kind .value ∷ site .value ∷
+    tenant .value ∷ gang .value ∷ nodes .value ∷ network .value ∷ timeout .value ∷ []) (timeout .end) 0 Ranges.profilesAsked profile timeout-said profile-in in
+    let slices-said : Said s (5 ∷ arrival .value ∷ duration .value ∷ priority .value ∷ count .value ∷ memory .value ∷ kind .value ∷ site .value ∷
+    tenant .value ∷ gang .value ∷ nodes .value ∷ network .value ∷ timeout .value ∷ profile .value ∷ slices .value ∷ []) (slices .end) =
+    said-next s (5 ∷ arrival .value ∷ duration .value ∷ priority .value ∷ count .value ∷ memory .value ∷ kind .value ∷ site .value ∷
+    tenant .value ∷ gang .value ∷ nodes .value ∷ network .value ∷ timeout .value ∷ profile .value ∷ []) (profile .end)
+    (leastSlices (profile .value)) (mostSlices (profile .value)) slices profile-said slices-in in
     let arrival-back : toBits binary64 (ofBits binary64 (arrival .value)) ≡ arrival .value = bits-back (arrival .value) (arrival-in .high) in
     let duration-back : toBits binary64 (ofBits binary64 (duration .value)) ≡ duration .value = bits-back (duration .value) (duration-in .high) in
     let priority-back : storedOf (priorityOf (priority .value)) ≡ priority .value = priority-back (priority .value) (priority-in .high) in
@@ -235,7 +273,28 @@ job-whole s k e =
     let gang-back : bit (eqb (gang .value) 1) ≡ gang .value = flag-back (gang .value) (gang-in .high) in
     let network-back : bit (eqb (network .value) 1) ≡ network .value = flag-back (network .value) (network-in .high) in
     let timeout-back : toBits binary64 (ofBits binary64 (timeout .value)) ≡ timeout .value = bits-back (timeout .value) (timeout-in .high) in
-    record { ranged = record { arrival = rw arrival-back (arrival-in .high); duration = rw duration-back (duration-in .high); priority = priority-small (priority .value) (priority-in .high); count = count-in .high; memory = rw memory-back (memory-in .high); kind = kind-in .high; site = site-in .high; tenant = tenant-in .high; nodes = nodes-in .high; timeout = rw timeout-back (timeout-in .high); profile = profile-in .high; least = slices-in .low; most = slices-in .high }; said = rw (arrival-back, duration-back, priority-back, memory-back, gang-back, network-back, timeout-back) slices-said }
+    record {
+      ranged = record {
+        arrival = rw arrival-back (arrival-in .high);
+        duration = rw duration-back (duration-in .high);
+        priority =
+            priority-small (priority .value) (priority-in .high);
+        count = count-in .high;
+        memory = rw memory-back (memory-in .high);
+        kind =
+            kind-in .high;
+        site = site-in .high;
+        tenant = tenant-in .high;
+        nodes = nodes-in .high;
+        timeout =
+            rw timeout-back (timeout-in .high);
+        profile = profile-in .high;
+        least = slices-in .low;
+        most = slices-in .high;
+      };
+      said =
+          rw (arrival-back, duration-back, priority-back, memory-back, gang-back, network-back, timeout-back) slices-said;
+    }
 
 options-whole : (s : List ℕ) → Said s (6 ∷ []) 1 → optionsRead s .answer ≡ Accepted → Whole s (optionsRead s)
 unfolding optionsRead numbersOf
@@ -247,7 +306,8 @@ options-whole s k e =
     let aware : Field = next s best 0 Ranges.flag in
     let aware-is : (best .answer ≡ Accepted) × Found s (best .end) 0 Ranges.flag aware = next-found s best 0 Ranges.flag e in
     let best-is : (multiplier .answer ≡ Accepted) × Found s (multiplier .end) 0 Ranges.flag best = next-found s multiplier 0 Ranges.flag (aware-is .0) in
-    let multiplier-is : (penalty .answer ≡ Accepted) × Found s (penalty .end) Ranges.leastMultiplier Ranges.multipliers multiplier = next-found s penalty Ranges.leastMultiplier Ranges.multipliers (best-is .0) in
+    let multiplier-is : (penalty .answer ≡ Accepted) × Found s (penalty .end) Ranges.leastMultiplier Ranges.multipliers multiplier =
+    next-found s penalty Ranges.leastMultiplier Ranges.multipliers (best-is .0) in
     let penalty-is : (seconds .answer ≡ Accepted) × Found s (seconds .end) 0 permittedBits penalty = next-found s seconds 0 permittedBits (multiplier-is .0) in
     let seconds-in : Found s 1 0 permittedBits seconds = field-found s 1 0 permittedBits (penalty-is .0) in
     let penalty-in : Found s (seconds .end) 0 permittedBits penalty = penalty-is .1 in
@@ -255,26 +315,42 @@ options-whole s k e =
     let best-in : Found s (multiplier .end) 0 Ranges.flag best = best-is .1 in
     let aware-in : Found s (best .end) 0 Ranges.flag aware = aware-is .1 in
     let seconds-said : Said s (6 ∷ seconds .value ∷ []) (seconds .end) = said-next s (6 ∷ []) 1 0 permittedBits seconds k seconds-in in
-    let penalty-said : Said s (6 ∷ seconds .value ∷ penalty .value ∷ []) (penalty .end) = said-next s (6 ∷ seconds .value ∷ []) (seconds .end) 0 permittedBits penalty seconds-said penalty-in in
-    let multiplier-said : Said s (6 ∷ seconds .value ∷ penalty .value ∷ multiplier .value ∷ []) (multiplier .end) = said-next s (6 ∷ seconds .value ∷ penalty .value ∷ []) (penalty .end) Ranges.leastMultiplier Ranges.multipliers multiplier penalty-said multiplier-in in
-    let best-said : Said s (6 ∷ seconds .value ∷ penalty .value ∷ multiplier .value ∷ best .value ∷ []) (best .end) = said-next s (6 ∷ seconds .value ∷ penalty .value ∷ multiplier .value ∷ []) (multiplier .end) 0 Ranges.flag best multiplier-said best-in in
-    let aware-said : Said s (6 ∷ seconds .value ∷ penalty .value ∷ multiplier .value ∷ best .value ∷ aware .value ∷ []) (aware .end) = said-next s (6 ∷ seconds .value ∷ penalty .value ∷ multiplier .value ∷ best .value ∷ []) (best .end) 0 Ranges.flag aware best-said aware-in in
+    let penalty-said : Said s (6 ∷ seconds .value ∷ penalty .value ∷ []) (penalty .end) =
+    said-next s (6 ∷ seconds .value ∷ []) (seconds .end) 0 permittedBits penalty seconds-said penalty-in in
+    let multiplier-said : Said s (6 ∷ seconds .value ∷ penalty .value ∷ multiplier .value ∷ []) (multiplier .end) =
+    said-next s (6 ∷ seconds .value ∷ penalty .value ∷ []) (penalty .end) Ranges.leastMultiplier Ranges.multipliers multiplier penalty-said multiplier-in in
+    let best-said : Said s (6 ∷ seconds .value ∷ penalty .value ∷ multiplier .value ∷ best .value ∷ []) (best .end) =
+    said-next s (6 ∷ seconds .value ∷ penalty .value ∷ multiplier .value ∷ []) (multiplier .end) 0 Ranges.flag best multiplier-said best-in in
+    let aware-said : Said s (6 ∷ seconds .value ∷ penalty .value ∷ multiplier .value ∷ best .value ∷ aware .value ∷ []) (aware .end) =
+    said-next s (6 ∷ seconds .value ∷ penalty .value ∷ multiplier .value ∷ best .value ∷ []) (best .end) 0 Ranges.flag aware best-said aware-in in
     let seconds-back : toBits binary64 (ofBits binary64 (seconds .value)) ≡ seconds .value = bits-back (seconds .value) (seconds-in .high) in
     let penalty-back : toBits binary64 (ofBits binary64 (penalty .value)) ≡ penalty .value = bits-back (penalty .value) (penalty-in .high) in
-    let multiplier-back : toBits binary64 (ofBits binary64 (multiplier .value)) ≡ multiplier .value = bits-back (multiplier .value) (omega (arith, multiplier-in .high)) in
+    let multiplier-back : toBits binary64 (ofBits binary64 (multiplier .value)) ≡ multiplier .value =
+    bits-back (multiplier .value) (omega (arith, multiplier-in .high)) in
     let best-back : bit (eqb (best .value) 1) ≡ best .value = flag-back (best .value) (best-in .high) in
     let aware-back : bit (eqb (aware .value) 1) ≡ aware .value = flag-back (aware .value) (aware-in .high) in
-    record { ranged = (rw seconds-back (seconds-in .high), rw penalty-back (penalty-in .high), rw multiplier-back (multiplier-in .low), rw multiplier-back (multiplier-in .high)); said = rw (seconds-back, penalty-back, multiplier-back, best-back, aware-back) aware-said }
+    record {
+      ranged = (
+        rw seconds-back (seconds-in .high),
+        rw penalty-back (penalty-in .high),
+        rw multiplier-back (multiplier-in .low),
+        rw multiplier-back (multiplier-in .high),
+      );
+      said = rw (seconds-back, penalty-back, multiplier-back, best-back, aware-back) aware-said;
+    }
 
 -- an accepted kind is one of the seven, and takes the first byte alone
 kind-found : (s : List ℕ) → accepted (kindField s .answer) ≡ true → Found s 0 0 Ranges.lastKind (kindField s)
 unfolding kindField
 kind-found s e = by-test (ltb Ranges.lastKind (field s 0 0 0xffffffffffffffff .value)) refl e
   where
-    by-test : (b : Bool) → ltb Ranges.lastKind (field s 0 0 0xffffffffffffffff .value) ≡ b → accepted (pick b (lost (UnknownKind 0)) (field s 0 0 0xffffffffffffffff) .answer) ≡ true → Found s 0 0 Ranges.lastKind (pick b (lost (UnknownKind 0)) (field s 0 0 0xffffffffffffffff))
+    by-test : (b : Bool) → ltb Ranges.lastKind (field s 0 0 0xffffffffffffffff .value) ≡ b →
+        accepted (pick b (lost (UnknownKind 0)) (field s 0 0 0xffffffffffffffff) .answer) ≡ true →
+        Found s 0 0 Ranges.lastKind (pick b (lost (UnknownKind 0)) (field s 0 0 0xffffffffffffffff))
     by-test true f g = let z : true ≡ false = cc in let w : _≡_ {A = ℕ} 0 1 = cc in absurd (omega arith)
     by-test false f g =
-        let h : Found s 0 0 0xffffffffffffffff (field s 0 0 0xffffffffffffffff) = field-found s 0 0 0xffffffffffffffff (accepted-is (field s 0 0 0xffffffffffffffff .answer) g) in
+        let h : Found s 0 0 0xffffffffffffffff (field s 0 0 0xffffffffffffffff) =
+        field-found s 0 0 0xffffffffffffffff (accepted-is (field s 0 0 0xffffffffffffffff .answer) g) in
         record { size = h .size; reads = h .reads; low = h .low; high = ltb-false Ranges.lastKind (field s 0 0 0xffffffffffffffff .value) f; ends = h .ends }
 
 -- accepted, it is whole
@@ -296,7 +372,15 @@ fields-whole s kind t h =
     (λ e3. pick-cases (Good s) (eqb kind 4) (profileRead s) five (λ e. profile-whole s (rw (eqb-true kind 4 e) at t))
     (λ e4. pick-cases (Good s) (eqb kind 5) (jobRead s) six (λ e. job-whole s (rw (eqb-true kind 5 e) at t))
     (λ e5. pick-cases (Good s) (eqb kind 6) (optionsRead s) ended (λ e. options-whole s (rw (eqb-true kind 6 e) at t))
-    (λ e6 a. let z : kind ≡ 0 = omega (arith, eqb-false kind 1 e1, eqb-false kind 2 e2, eqb-false kind 3 e3, eqb-false kind 4 e4, eqb-false kind 5 e5, eqb-false kind 6 e6) in
+    (λ e6 a. let z : kind ≡ 0 = omega (
+      arith,
+      eqb-false kind 1 e1,
+      eqb-false kind 2 e2,
+      eqb-false kind 3 e3,
+      eqb-false kind 4 e4,
+      eqb-false kind 5 e5,
+      eqb-false kind 6 e6,
+    ) in
     record { ranged = tt; said = rw z at t }))))))
 
 -- an accepted record has every field in its range and takes a byte at least, and the bytes that it takes are its form

@@ -65,7 +65,8 @@ once-place false at h = let z : _≡_ {A = ℕ} 0 1 = cc in absurd (omega arith)
 node-place : (nodes gpus at : ℕ) → accepted (onNode nodes gpus at) ≡ false → placeOf (onNode nodes gpus at) ≡ at
 node-place nodes gpus at = by-test (eqb nodes 0)
   where
-    by-test : (b : Bool) → accepted (pick b (GpuBeforeNode at) (roomFor gpus Sizes.gpus at)) ≡ false → placeOf (pick b (GpuBeforeNode at) (roomFor gpus Sizes.gpus at)) ≡ at
+    by-test : (b : Bool) → accepted (pick b (GpuBeforeNode at) (roomFor gpus Sizes.gpus at)) ≡ false →
+        placeOf (pick b (GpuBeforeNode at) (roomFor gpus Sizes.gpus at)) ≡ at
     by-test true h = refl
     by-test false h = room-place gpus Sizes.gpus at h
 
@@ -81,7 +82,8 @@ fault-place t at (R.Options options) h = once-place (t .told) at h
 -- the place of a refusal lies behind the records before it, and inside the trace
 pub stopped-place : {trace : List ℕ} {at : ℕ} {t : Tables} {a : Answer} → at ≤ length trace → Stopped trace at t a → (at ≤ placeOf a) × (placeOf a ≤ length trace)
 stopped-place {trace} {at} h (unread e) =
-    let p : placeOf (shifted at (recordRead (drop at trace) .answer)) ≡ at + placeOf (recordRead (drop at trace) .answer) = shifted-place at (recordRead (drop at trace) .answer) e in
+    let p : placeOf (shifted at (recordRead (drop at trace) .answer)) ≡ at + placeOf (recordRead (drop at trace) .answer) =
+    shifted-place at (recordRead (drop at trace) .answer) e in
     (omega arith, omega (arith, read-inside trace at h .0))
 stopped-place {trace} {at} {t} h (faulty r k e g f) =
     let p : placeOf (faultOf (t .setting) (t .told) at r) ≡ at = fault-place t at r f in
@@ -118,17 +120,20 @@ length-zero : {A : Type 0} (l : List A) → length l ≡ 0 → l ≡ []
 length-zero [] h = refl
 length-zero (x ∷ l) h = absurd (omega arith)
 
-gpu-true : (rs : List Record) (t : Tables) (at : ℕ) (card : Card) → Holds rs t → accepted (onNode (t .setting .nodes) (t .setting .gpus) at) ≡ false → Faulty rs at (R.Gpu card) (onNode (t .setting .nodes) (t .setting .gpus) at)
+gpu-true : (rs : List Record) (t : Tables) (at : ℕ) (card : Card) → Holds rs t →
+    accepted (onNode (t .setting .nodes) (t .setting .gpus) at) ≡ false → Faulty rs at (R.Gpu card) (onNode (t .setting .nodes) (t .setting .gpus) at)
 gpu-true rs t at card h = by-test (eqb (t .setting .nodes) 0) refl
   where
-    by-test : (b : Bool) → eqb (t .setting .nodes) 0 ≡ b → accepted (pick b (GpuBeforeNode at) (roomFor (t .setting .gpus) Sizes.gpus at)) ≡ false → Faulty rs at (R.Gpu card) (pick b (GpuBeforeNode at) (roomFor (t .setting .gpus) Sizes.gpus at))
+    by-test : (b : Bool) → eqb (t .setting .nodes) 0 ≡ b → accepted (pick b (GpuBeforeNode at) (roomFor (t .setting .gpus) Sizes.gpus at)) ≡ false →
+        Faulty rs at (R.Gpu card) (pick b (GpuBeforeNode at) (roomFor (t .setting .gpus) Sizes.gpus at))
     by-test true e f = no-node card (length-zero (sitesOf rs) (omega (arith, eqb-true (t .setting .nodes) 0 e, h .nodes .count-is)))
     by-test false e f =
         let q = no-room (t .setting .gpus) Sizes.gpus at f in
         rw (q .0) (gpus-full card (omega (arith, eqb-false (t .setting .nodes) 0 e, h .nodes .count-is)) (omega (arith, q .1, h .gpus .count-is, h .gpus .room)))
 
 -- a fault is true of the records before it
-pub fault-true : (rs : List Record) (t : Tables) (at : ℕ) (r : Record) → Holds rs t → accepted (faultOf (t .setting) (t .told) at r) ≡ false → Faulty rs at r (faultOf (t .setting) (t .told) at r)
+pub fault-true : (rs : List Record) (t : Tables) (at : ℕ) (r : Record) → Holds rs t → accepted (faultOf (t .setting) (t .told) at r) ≡ false →
+    Faulty rs at r (faultOf (t .setting) (t .told) at r)
 fault-true rs t at R.End h f = let z : _≡_ {A = ℕ} 0 1 = cc in absurd (omega arith)
 fault-true rs t at (R.Node site) h f =
     let q = no-room (t .setting .nodes) Sizes.nodes at f in
@@ -153,7 +158,8 @@ pub data Because (trace : List ℕ) (rs : List Record) (at : ℕ) : Answer → T
   by-fault : (r : Record) (k : ℕ) (a : Answer) → recordRead (drop at trace) ≡ whole r k → Faulty rs at r a → Because trace rs at a
   by-end : (k : ℕ) → recordRead (drop at trace) ≡ whole R.End k → at + k < length trace → Because trace rs at (AfterEnd (at + k))
 
-stopped-because : {trace : List ℕ} {rs : List Record} {at : ℕ} {t : Tables} {a : Answer} → Bytes trace → at ≤ length trace → Holds rs t → Stopped trace at t a → Because trace rs at a
+stopped-because : {trace : List ℕ} {rs : List Record} {at : ℕ} {t : Tables} {a : Answer} → Bytes trace → at ≤ length trace → Holds rs t →
+    Stopped trace at t a → Because trace rs at a
 stopped-because {trace} {rs} {at} b i h (unread f) =
     ⊎-elim
     (λ (e : recordRead (drop at trace) .answer ≡ Accepted). absurd (never-both refl (rw e at f)))
@@ -191,7 +197,20 @@ load-refusal trace = by-outcome (load trace) (load-outcome trace)
     by-outcome l (done rs at k t f w r x) h = let z : _≡_ {A = ℕ} 0 1 = cc in absurd (omega arith)
     by-outcome l (stopped rs at t a w q s) h =
         let p : (at ≤ placeOf a) × (placeOf a ≤ length trace) = stopped-place (reached-inside w) q in
-        inr (record { records = rs; at = at; tables = t; reached = w; holds = reached-holds w; bytes = reached-forms w; here = q; because = λ b. stopped-because b (reached-inside w) (reached-holds w) q; behind = p .0; inside = p .1; fits = s })
+        inr (record {
+          records = rs;
+          at = at;
+          tables = t;
+          reached = w;
+          holds = reached-holds w;
+          bytes = reached-forms w;
+          here = q;
+          because =
+              λ b. stopped-because b (reached-inside w) (reached-holds w) q;
+          behind = p .0;
+          inside = p .1;
+          fits = s;
+        })
     by-outcome l (long s) h = inl (s, refl)
 
 -- a refused load gives the empty plan
@@ -248,7 +267,8 @@ because-number (by-fault r k a e f) = by-reason f
 because-number (by-end k e l) = omega arith
 
 -- refusal 9 is given of a trace over 65,536 bytes alone, and its place is 65,536
-pub nine-place : (trace : List ℕ) → Bytes trace → numberOf (load trace .answer) ≡ 9 → (placeOf (load trace .answer) ≡ Sizes.traceBytes) × (Sizes.traceBytes < length trace)
+pub nine-place : (trace : List ℕ) → Bytes trace → numberOf (load trace .answer) ≡ 9 →
+    (placeOf (load trace .answer) ≡ Sizes.traceBytes) × (Sizes.traceBytes < length trace)
 nine-place trace b n = by-refusal (load trace .answer) n (load-refusal trace (not-accepted (load trace .answer) n))
   where
     not-accepted : (a : Answer) → numberOf a ≡ 9 → accepted a ≡ false

@@ -44,7 +44,9 @@ rangesOf kind before =
     (pick (eqb kind 2) (range 0 Ranges.types ∷ range 0 permittedBits ∷ range 0 Ranges.groups ∷ range 0 Ranges.flag ∷ [])
     (pick (eqb kind 3) (range 0 Ranges.tenants ∷ range 0 Ranges.quotas ∷ [])
     (pick (eqb kind 4) (range 0 Ranges.profiles ∷ range 1 Ranges.mosts ∷ [])
-    (pick (eqb kind 5) (range 0 permittedBits ∷ range 0 permittedBits ∷ range 0 Ranges.priorities ∷ range 0 Ranges.counts ∷ range 0 permittedBits ∷ range 0 Ranges.typesAsked ∷ range 0 Ranges.sites ∷ range 0 Ranges.tenantsAsked ∷ range 0 Ranges.flag ∷ range 0 Ranges.gangNodes ∷ range 0 Ranges.flag ∷ range 0 permittedBits ∷ range 0 Ranges.profilesAsked ∷ range (leastSlices before) (mostSlices before) ∷ [])
+    (pick (eqb kind 5) (range 0 permittedBits ∷ range 0 permittedBits ∷ range 0 Ranges.priorities ∷ range 0 Ranges.counts ∷ range 0 permittedBits ∷
+    range 0 Ranges.typesAsked ∷ range 0 Ranges.sites ∷ range 0 Ranges.tenantsAsked ∷ range 0 Ranges.flag ∷ range 0 Ranges.gangNodes ∷ range 0
+    Ranges.flag ∷ range 0 permittedBits ∷ range 0 Ranges.profilesAsked ∷ range (leastSlices before) (mostSlices before) ∷ [])
     (pick (eqb kind 6) (range 0 permittedBits ∷ range 0 permittedBits ∷ range Ranges.leastMultiplier Ranges.multipliers ∷ range 0 Ranges.flag ∷ range 0 Ranges.flag ∷ [])
     [])))))
 
@@ -63,7 +65,8 @@ Due (kind ∷ ns) = length ns < length (rangesOf kind 0)
 -- The bytes up to a place are these numbers of a record, each whole and in its range.
 pub data Fields (s : List ℕ) : List ℕ → ℕ → Type 0 where
   none : Fields s [] 0
-  more : {ns : List ℕ} {at : ℕ} → Fields s ns at → Due ns → (v k : ℕ) → number (drop at s) ≡ Value v k → rangeAfter ns .least ≤ v → v ≤ rangeAfter ns .most → Fields s (ns ++ (v ∷ [])) (at + k)
+  more : {ns : List ℕ} {at : ℕ} → Fields s ns at → Due ns → (v k : ℕ) → number (drop at s) ≡ Value v k → rangeAfter ns .least ≤ v →
+      v ≤ rangeAfter ns .most → Fields s (ns ++ (v ∷ [])) (at + k)
 
 -- A true refusal of the number behind them.
 pub data Refuses (s : List ℕ) : Answer → Type 0 where
@@ -71,8 +74,10 @@ pub data Refuses (s : List ℕ) : Answer → Type 0 where
   longer : (ns : List ℕ) (at : ℕ) → Fields s ns at → Due ns → number (drop at s) ≡ Padded → Refuses s (BadNumber at)
   larger : (ns : List ℕ) (at : ℕ) → Fields s ns at → Due ns → number (drop at s) ≡ Oversized → Refuses s (BadNumber at)
   unknown : (v k : ℕ) → number s ≡ Value v k → Ranges.lastKind < v → Refuses s (UnknownKind 0)
-  below : (kind : ℕ) (ns : List ℕ) (at v k : ℕ) → Fields s (kind ∷ ns) at → Due (kind ∷ ns) → number (drop at s) ≡ Value v k → v < rangeAfter (kind ∷ ns) .least → Refuses s (OutOfRange at)
-  over : (kind : ℕ) (ns : List ℕ) (at v k : ℕ) → Fields s (kind ∷ ns) at → Due (kind ∷ ns) → number (drop at s) ≡ Value v k → rangeAfter (kind ∷ ns) .most < v → Refuses s (OutOfRange at)
+  below : (kind : ℕ) (ns : List ℕ) (at v k : ℕ) → Fields s (kind ∷ ns) at → Due (kind ∷ ns) → number (drop at s) ≡ Value v k →
+      v < rangeAfter (kind ∷ ns) .least → Refuses s (OutOfRange at)
+  over : (kind : ℕ) (ns : List ℕ) (at v k : ℕ) → Fields s (kind ∷ ns) at → Due (kind ∷ ns) → number (drop at s) ≡ Value v k →
+      rangeAfter (kind ∷ ns) .most < v → Refuses s (OutOfRange at)
 
 -- the numbers' forms are those bytes
 pub fields-forms : {s ns : List ℕ} {at : ℕ} → Fields s ns at → Bytes s → take at s ≡ forms ns
@@ -105,10 +110,12 @@ data Track (s ns : List ℕ) (f : Field) : Type 0 where
   good : f .answer ≡ Accepted → Fields s (ns ++ (f .value ∷ [])) (f .end) → Track s ns f
   bad : Refuses s (f .answer) → Track s ns f
 
-ranged-track : (s : List ℕ) (kind : ℕ) (ns : List ℕ) (at : ℕ) (r : Number) → Fields s (kind ∷ ns) at → Due (kind ∷ ns) → number (drop at s) ≡ r → Track s (kind ∷ ns) (ranged (length s) at (rangeAfter (kind ∷ ns) .least) (rangeAfter (kind ∷ ns) .most) r)
+ranged-track : (s : List ℕ) (kind : ℕ) (ns : List ℕ) (at : ℕ) (r : Number) → Fields s (kind ∷ ns) at → Due (kind ∷ ns) → number (drop at s) ≡ r →
+    Track s (kind ∷ ns) (ranged (length s) at (rangeAfter (kind ∷ ns) .least) (rangeAfter (kind ∷ ns) .most) r)
 ranged-track s kind ns at (Value v n) w d e = by-test (ltb v (rangeAfter (kind ∷ ns) .least)) (ltb (rangeAfter (kind ∷ ns) .most) v) refl refl
   where
-    by-test : (x y : Bool) → ltb v (rangeAfter (kind ∷ ns) .least) ≡ x → ltb (rangeAfter (kind ∷ ns) .most) v ≡ y → Track s (kind ∷ ns) (pick x (lost (OutOfRange at)) (pick y (lost (OutOfRange at)) (got v (at + n))))
+    by-test : (x y : Bool) → ltb v (rangeAfter (kind ∷ ns) .least) ≡ x → ltb (rangeAfter (kind ∷ ns) .most) v ≡ y →
+        Track s (kind ∷ ns) (pick x (lost (OutOfRange at)) (pick y (lost (OutOfRange at)) (got v (at + n))))
     by-test true y f g = bad (below kind ns at v n w d e (ltb-true v (rangeAfter (kind ∷ ns) .least) f))
     by-test false true f g = bad (over kind ns at v n w d e (ltb-true (rangeAfter (kind ∷ ns) .most) v g))
     by-test false false f g = good refl (more w d v n e (ltb-false v (rangeAfter (kind ∷ ns) .least) f) (ltb-false (rangeAfter (kind ∷ ns) .most) v g))
@@ -116,11 +123,14 @@ ranged-track s kind ns at Ends w d e = bad (cut (kind ∷ ns) at w d e)
 ranged-track s kind ns at Padded w d e = bad (longer (kind ∷ ns) at w d e)
 ranged-track s kind ns at Oversized w d e = bad (larger (kind ∷ ns) at w d e)
 
-field-track : (s : List ℕ) (kind : ℕ) (ns : List ℕ) (at least most : ℕ) → Fields s (kind ∷ ns) at → Due (kind ∷ ns) → rangeAfter (kind ∷ ns) ≡ range least most → Track s (kind ∷ ns) (field s at least most)
+field-track : (s : List ℕ) (kind : ℕ) (ns : List ℕ) (at least most : ℕ) → Fields s (kind ∷ ns) at → Due (kind ∷ ns) →
+    rangeAfter (kind ∷ ns) ≡ range least most → Track s (kind ∷ ns) (field s at least most)
 unfolding field
 field-track s kind ns at least most w d e = rw e at (ranged-track s kind ns at (number (drop at s)) w d refl)
 
-next-track : (s : List ℕ) (kind : ℕ) (ns : List ℕ) (before : Field) (least most : ℕ) → Track s (kind ∷ ns) before → Due (kind ∷ (ns ++ (before .value ∷ []))) → rangeAfter (kind ∷ (ns ++ (before .value ∷ []))) ≡ range least most → Track s (kind ∷ (ns ++ (before .value ∷ []))) (next s before least most)
+next-track : (s : List ℕ) (kind : ℕ) (ns : List ℕ) (before : Field) (least most : ℕ) → Track s (kind ∷ ns) before →
+    Due (kind ∷ (ns ++ (before .value ∷ []))) → rangeAfter (kind ∷ (ns ++ (before .value ∷ []))) ≡ range least most →
+    Track s (kind ∷ (ns ++ (before .value ∷ []))) (next s before least most)
 unfolding next
 next-track s kind ns before least most (good a w) d e = rw a (field-track s kind (ns ++ (before .value ∷ [])) (before .end) least most w d e)
 next-track s kind ns before least most (bad r) d e = rw (refuses-false r) (bad r)
@@ -152,7 +162,8 @@ gpu-told s w =
     let kind-track : Track s (2 ∷ []) kind = field-track s 2 [] 1 0 Ranges.types w (omega arith) refl in
     let memory-track : Track s (2 ∷ kind .value ∷ []) memory = next-track s 2 [] kind 0 permittedBits kind-track (omega arith) refl in
     let group-track : Track s (2 ∷ kind .value ∷ memory .value ∷ []) group = next-track s 2 (kind .value ∷ []) memory 0 Ranges.groups memory-track (omega arith) refl in
-    let mig-track : Track s (2 ∷ kind .value ∷ memory .value ∷ group .value ∷ []) mig = next-track s 2 (kind .value ∷ memory .value ∷ []) group 0 Ranges.flag group-track (omega arith) refl in
+    let mig-track : Track s (2 ∷ kind .value ∷ memory .value ∷ group .value ∷ []) mig =
+    next-track s 2 (kind .value ∷ memory .value ∷ []) group 0 Ranges.flag group-track (omega arith) refl in
     track-told s (2 ∷ kind .value ∷ memory .value ∷ group .value ∷ []) mig mig-track
 
 quota-told : (s : List ℕ) → Fields s (3 ∷ []) 1 → Told s (quotaRead s .answer)
@@ -192,19 +203,46 @@ job-told s w =
     let slices : Field = next s profile (leastSlices (profile .value)) (mostSlices (profile .value)) in
     let arrival-track : Track s (5 ∷ []) arrival = field-track s 5 [] 1 0 permittedBits w (omega arith) refl in
     let duration-track : Track s (5 ∷ arrival .value ∷ []) duration = next-track s 5 [] arrival 0 permittedBits arrival-track (omega arith) refl in
-    let priority-track : Track s (5 ∷ arrival .value ∷ duration .value ∷ []) priority = next-track s 5 (arrival .value ∷ []) duration 0 Ranges.priorities duration-track (omega arith) refl in
-    let count-track : Track s (5 ∷ arrival .value ∷ duration .value ∷ priority .value ∷ []) count = next-track s 5 (arrival .value ∷ duration .value ∷ []) priority 0 Ranges.counts priority-track (omega arith) refl in
-    let memory-track : Track s (5 ∷ arrival .value ∷ duration .value ∷ priority .value ∷ count .value ∷ []) memory = next-track s 5 (arrival .value ∷ duration .value ∷ priority .value ∷ []) count 0 permittedBits count-track (omega arith) refl in
-    let kind-track : Track s (5 ∷ arrival .value ∷ duration .value ∷ priority .value ∷ count .value ∷ memory .value ∷ []) kind = next-track s 5 (arrival .value ∷ duration .value ∷ priority .value ∷ count .value ∷ []) memory 0 Ranges.typesAsked memory-track (omega arith) refl in
-    let site-track : Track s (5 ∷ arrival .value ∷ duration .value ∷ priority .value ∷ count .value ∷ memory .value ∷ kind .value ∷ []) site = next-track s 5 (arrival .value ∷ duration .value ∷ priority .value ∷ count .value ∷ memory .value ∷ []) kind 0 Ranges.sites kind-track (omega arith) refl in
-    let tenant-track : Track s (5 ∷ arrival .value ∷ duration .value ∷ priority .value ∷ count .value ∷ memory .value ∷ kind .value ∷ site .value ∷ []) tenant = next-track s 5 (arrival .value ∷ duration .value ∷ priority .value ∷ count .value ∷ memory .value ∷ kind .value ∷ []) site 0 Ranges.tenantsAsked site-track (omega arith) refl in
-    let gang-track : Track s (5 ∷ arrival .value ∷ duration .value ∷ priority .value ∷ count .value ∷ memory .value ∷ kind .value ∷ site .value ∷ tenant .value ∷ []) gang = next-track s 5 (arrival .value ∷ duration .value ∷ priority .value ∷ count .value ∷ memory .value ∷ kind .value ∷ site .value ∷ []) tenant 0 Ranges.flag tenant-track (omega arith) refl in
-    let nodes-track : Track s (5 ∷ arrival .value ∷ duration .value ∷ priority .value ∷ count .value ∷ memory .value ∷ kind .value ∷ site .value ∷ tenant .value ∷ gang .value ∷ []) nodes = next-track s 5 (arrival .value ∷ duration .value ∷ priority .value ∷ count .value ∷ memory .value ∷ kind .value ∷ site .value ∷ tenant .value ∷ []) gang 0 Ranges.gangNodes gang-track (omega arith) refl in
-    let network-track : Track s (5 ∷ arrival .value ∷ duration .value ∷ priority .value ∷ count .value ∷ memory .value ∷ kind .value ∷ site .value ∷ tenant .value ∷ gang .value ∷ nodes .value ∷ []) network = next-track s 5 (arrival .value ∷ duration .value ∷ priority .value ∷ count .value ∷ memory .value ∷ kind .value ∷ site .value ∷ tenant .value ∷ gang .value ∷ []) nodes 0 Ranges.flag nodes-track (omega arith) refl in
-    let timeout-track : Track s (5 ∷ arrival .value ∷ duration .value ∷ priority .value ∷ count .value ∷ memory .value ∷ kind .value ∷ site .value ∷ tenant .value ∷ gang .value ∷ nodes .value ∷ network .value ∷ []) timeout = next-track s 5 (arrival .value ∷ duration .value ∷ priority .value ∷ count .value ∷ memory .value ∷ kind .value ∷ site .value ∷ tenant .value ∷ gang .value ∷ nodes .value ∷ []) network 0 permittedBits network-track (omega arith) refl in
-    let profile-track : Track s (5 ∷ arrival .value ∷ duration .value ∷ priority .value ∷ count .value ∷ memory .value ∷ kind .value ∷ site .value ∷ tenant .value ∷ gang .value ∷ nodes .value ∷ network .value ∷ timeout .value ∷ []) profile = next-track s 5 (arrival .value ∷ duration .value ∷ priority .value ∷ count .value ∷ memory .value ∷ kind .value ∷ site .value ∷ tenant .value ∷ gang .value ∷ nodes .value ∷ network .value ∷ []) timeout 0 Ranges.profilesAsked timeout-track (omega arith) refl in
-    let slices-track : Track s (5 ∷ arrival .value ∷ duration .value ∷ priority .value ∷ count .value ∷ memory .value ∷ kind .value ∷ site .value ∷ tenant .value ∷ gang .value ∷ nodes .value ∷ network .value ∷ timeout .value ∷ profile .value ∷ []) slices = next-track s 5 (arrival .value ∷ duration .value ∷ priority .value ∷ count .value ∷ memory .value ∷ kind .value ∷ site .value ∷ tenant .value ∷ gang .value ∷ nodes .value ∷ network .value ∷ timeout .value ∷ []) profile (leastSlices (profile .value)) (mostSlices (profile .value)) profile-track (omega arith) refl in
-    track-told s (5 ∷ arrival .value ∷ duration .value ∷ priority .value ∷ count .value ∷ memory .value ∷ kind .value ∷ site .value ∷ tenant .value ∷ gang .value ∷ nodes .value ∷ network .value ∷ timeout .value ∷ profile .value ∷ []) slices slices-track
+    let priority-track : Track s (5 ∷ arrival .value ∷ duration .value ∷ []) priority =
+    next-track s 5 (arrival .value ∷ []) duration 0 Ranges.priorities duration-track (omega arith) refl in
+    let count-track : Track s (5 ∷ arrival .value ∷ duration .value ∷ priority .value ∷ []) count =
+    next-track s 5 (arrival .value ∷ duration .value ∷ []) priority 0 Ranges.counts priority-track (omega arith) refl in
+    let memory-track : Track s (5 ∷ arrival .value ∷ duration .value ∷ priority .value ∷ count .value ∷ []) memory =
+    next-track s 5 (arrival .value ∷ duration .value ∷ priority .value ∷ []) count 0 permittedBits count-track (omega arith) refl in
+    let kind-track : Track s (5 ∷ arrival .value ∷ duration .value ∷ priority .value ∷ count .value ∷ memory .value ∷ []) kind =
+    next-track s 5 (arrival .value ∷ duration .value ∷ priority .value ∷ count .value ∷ []) memory 0 Ranges.typesAsked memory-track (omega arith) refl in
+    let site-track : Track s (5 ∷ arrival .value ∷ duration .value ∷ priority .value ∷ count .value ∷ memory .value ∷ kind .value ∷ []) site =
+    next-track s 5 (arrival .value ∷ duration .value ∷ priority .value ∷ count .value ∷ memory .value ∷ []) kind 0 Ranges.sites kind-track (omega arith) refl in
+    let tenant-track : Track s (5 ∷ arrival .value ∷ duration .value ∷ priority .value ∷ count .value ∷ memory .value ∷ kind .value ∷ site .value ∷
+    []) tenant = next-track s 5 (arrival .value ∷ duration .value ∷ priority .value ∷ count .value ∷ memory .value ∷ kind .value ∷ []) site 0
+    Ranges.tenantsAsked site-track (omega arith) refl in
+    let gang-track : Track s (5 ∷ arrival .value ∷ duration .value ∷ priority .value ∷ count .value ∷ memory .value ∷ kind .value ∷ site .value ∷
+    tenant .value ∷ []) gang = next-track s 5
+    (arrival .value ∷ duration .value ∷ priority .value ∷ count .value ∷ memory .value ∷ kind .value ∷ site .value ∷ []) tenant 0 Ranges.flag
+    tenant-track (omega arith) refl in
+    let nodes-track : Track s (5 ∷ arrival .value ∷ duration .value ∷ priority .value ∷ count .value ∷ memory .value ∷ kind .value ∷ site .value ∷
+    tenant .value ∷ gang .value ∷ []) nodes =
+    next-track s 5 (arrival .value ∷ duration .value ∷ priority .value ∷ count .value ∷ memory .value ∷ kind .value ∷ site .value ∷ tenant .value
+    ∷ []) gang 0 Ranges.gangNodes gang-track (omega arith) refl in
+    let network-track : Track s (5 ∷ arrival .value ∷ duration .value ∷ priority .value ∷ count .value ∷ memory .value ∷ kind .value ∷ site .value ∷
+    tenant .value ∷ gang .value ∷ nodes .value ∷ []) network =
+    next-track s 5 (arrival .value ∷ duration .value ∷ priority .value ∷ count .value ∷ memory .value ∷ kind .value ∷ site .value ∷ tenant .value
+    ∷ gang .value ∷ []) nodes 0 Ranges.flag nodes-track (omega arith) refl in
+    let timeout-track : Track s (5 ∷ arrival .value ∷ duration .value ∷ priority .value ∷ count .value ∷ memory .value ∷ kind .value ∷ site .value ∷
+    tenant .value ∷ gang .value ∷ nodes .value ∷ network .value ∷ []) timeout =
+    next-track s 5 (arrival .value ∷ duration .value ∷ priority .value ∷ count .value ∷ memory .value ∷ kind .value ∷ site .value ∷ tenant .value
+    ∷ gang .value ∷ nodes .value ∷ []) network 0 permittedBits network-track (omega arith) refl in
+    let profile-track : Track s (5 ∷ arrival .value ∷ duration .value ∷ priority .value ∷ count .value ∷ memory .value ∷ kind .value ∷ site .value ∷
+    tenant .value ∷ gang .value ∷ nodes .value ∷ network .value ∷ timeout .value ∷ []) profile =
+    next-track s 5 (arrival .value ∷ duration .value ∷ priority .value ∷ count .value ∷ memory .value ∷ kind .value ∷ site .value ∷ tenant .value
+    ∷ gang .value ∷ nodes .value ∷ network .value ∷ []) timeout 0 Ranges.profilesAsked timeout-track (omega arith) refl in
+    let slices-track : Track s (5 ∷ arrival .value ∷ duration .value ∷ priority .value ∷ count .value ∷ memory .value ∷ kind .value ∷ site .value ∷
+    tenant .value ∷ gang .value ∷ nodes .value ∷ network .value ∷ timeout .value ∷ profile .value ∷ []) slices =
+    next-track s 5 (arrival .value ∷ duration .value ∷ priority .value ∷ count .value ∷ memory .value ∷ kind .value ∷ site .value ∷ tenant .value
+    ∷ gang .value ∷ nodes .value ∷ network .value ∷ timeout .value ∷ []) profile (leastSlices (profile .value)) (mostSlices (profile .value))
+    profile-track (omega arith) refl in
+    track-told s (5 ∷ arrival .value ∷ duration .value ∷ priority .value ∷ count .value ∷ memory .value ∷ kind .value ∷ site .value ∷ tenant .value ∷
+    gang .value ∷ nodes .value ∷ network .value ∷ timeout .value ∷ profile .value ∷ []) slices slices-track
 
 options-told : (s : List ℕ) → Fields s (6 ∷ []) 1 → Told s (optionsRead s .answer)
 unfolding optionsRead rangeAfter rangesOf
@@ -216,9 +254,12 @@ options-told s w =
     let aware : Field = next s best 0 Ranges.flag in
     let seconds-track : Track s (6 ∷ []) seconds = field-track s 6 [] 1 0 permittedBits w (omega arith) refl in
     let penalty-track : Track s (6 ∷ seconds .value ∷ []) penalty = next-track s 6 [] seconds 0 permittedBits seconds-track (omega arith) refl in
-    let multiplier-track : Track s (6 ∷ seconds .value ∷ penalty .value ∷ []) multiplier = next-track s 6 (seconds .value ∷ []) penalty Ranges.leastMultiplier Ranges.multipliers penalty-track (omega arith) refl in
-    let best-track : Track s (6 ∷ seconds .value ∷ penalty .value ∷ multiplier .value ∷ []) best = next-track s 6 (seconds .value ∷ penalty .value ∷ []) multiplier 0 Ranges.flag multiplier-track (omega arith) refl in
-    let aware-track : Track s (6 ∷ seconds .value ∷ penalty .value ∷ multiplier .value ∷ best .value ∷ []) aware = next-track s 6 (seconds .value ∷ penalty .value ∷ multiplier .value ∷ []) best 0 Ranges.flag best-track (omega arith) refl in
+    let multiplier-track : Track s (6 ∷ seconds .value ∷ penalty .value ∷ []) multiplier =
+    next-track s 6 (seconds .value ∷ []) penalty Ranges.leastMultiplier Ranges.multipliers penalty-track (omega arith) refl in
+    let best-track : Track s (6 ∷ seconds .value ∷ penalty .value ∷ multiplier .value ∷ []) best =
+    next-track s 6 (seconds .value ∷ penalty .value ∷ []) multiplier 0 Ranges.flag multiplier-track (omega arith) refl in
+    let aware-track : Track s (6 ∷ seconds .value ∷ penalty .value ∷ multiplier .value ∷ best .value ∷ []) aware =
+    next-track s 6 (seconds .value ∷ penalty .value ∷ multiplier .value ∷ []) best 0 Ranges.flag best-track (omega arith) refl in
     track-told s (6 ∷ seconds .value ∷ penalty .value ∷ multiplier .value ∷ best .value ∷ []) aware aware-track
 
 -- each told so
@@ -258,7 +299,8 @@ kind-told s b = by-number (number s) refl
         let w : Fields s (v ∷ []) (0 + n) = more none tt v n e (omega arith) l in
         inl (refl, rw o at w)
 
-    by-number : (r : Number) → number s ≡ r → Headed s (pick (ltb Ranges.lastKind (ranged (length s) 0 0 0xffffffffffffffff r .value)) (lost (UnknownKind 0)) (ranged (length s) 0 0 0xffffffffffffffff r))
+    by-number : (r : Number) → number s ≡ r →
+        Headed s (pick (ltb Ranges.lastKind (ranged (length s) 0 0 0xffffffffffffffff r .value)) (lost (UnknownKind 0)) (ranged (length s) 0 0 0xffffffffffffffff r))
     by-number (Value v n) e =
         let m : v < 2 ^ 64 = reads-form v n s b e .0 in
         let z : ltb v 0 ≡ false = le-ltb v 0 (omega arith) in
@@ -273,6 +315,7 @@ pub record-told : (s : List ℕ) → Bytes s → (recordRead s .answer ≡ Accep
 unfolding recordRead
 record-told s b = by-kind (kind-told s b)
   where
-    by-kind : Headed s (kindField s) → Honest s (pick (accepted (kindField s .answer)) (fieldsRead s (kindField s .value)) (record { answer = kindField s .answer; found = End; used = 0 }))
+    by-kind : Headed s (kindField s) → Honest s
+        (pick (accepted (kindField s .answer)) (fieldsRead s (kindField s .value)) (record { answer = kindField s .answer; found = End; used = 0 }))
     by-kind (inl h) = rw (h .0) (fields-told s (kindField s .value) (h .1))
     by-kind (inr r) = rw (refuses-false r) (inr r)

@@ -94,21 +94,25 @@ spared s clock j x l =
       clear =
           λ p id vs so w may once e.
           clear-other clock p so id vs (may-run s clock p id vs may) once j
-          (fails (has j vs) (λ t. let f : jobAt (p .jobs) j .evictions < 3 = has-all (MayLeave s clock p id) j vs may t .2 .few in omega (arith, f, ap (λ (y : Job). y .evictions) e, l .1)))
+          (fails (has j vs) (λ t. let f : jobAt (p .jobs) j .evictions < 3 =
+          has-all (MayLeave s clock p id) j vs may t .2 .few in omega (arith, f, ap (λ (y : Job). y .evictions) e, l .1)))
           ∙ e;
     }
 
 module _ (jobs₀ : List Job) (k : ℕ) (h : List Decision) (m : Moment) (a : Amid jobs₀ k h m) where
   -- who is neither placed nor a victim is as before
-  pub settled-other : (j : ℕ) → jobAt (passOf m .jobs) j ≡ jobAt (m .plan .jobs) j → has j (placedOf (passOf m)) ≡ false → jobAt (settled m .plan .jobs) j ≡ jobAt (m .plan .jobs) j
+  pub settled-other : (j : ℕ) → jobAt (passOf m .jobs) j ≡ jobAt (m .plan .jobs) j → has j (placedOf (passOf m)) ≡ false →
+      jobAt (settled m .plan .jobs) j ≡ jobAt (m .plan .jobs) j
   settled-other j e n =
-      rw (settled-is m .0) (all-other (m .plan .setting .options) (m .plan .clock) (toStart (m .plan) (passOf m)) (placings (passOf m)) j (has-apart j (placedOf (passOf m)) n) ∙ e)
+      rw (settled-is m .0) (all-other (m .plan .setting .options) (m .plan .clock) (toStart (m .plan) (passOf m)) (placings (passOf m)) j
+      (has-apart j (placedOf (passOf m)) n) ∙ e)
 
   -- an entry in use stays
   pub settled-entry : (i : ℕ) → used (eventAt (m .plan .events) i) ≡ true → eventAt (settled m .plan .events) i ≡ eventAt (m .plan .events) i
   settled-entry i u =
       let t : Wider (m .plan .events) (toStart (m .plan) (passOf m) .ahead .events) = timeouts-of jobs₀ k h m a .wider in
-      let s : Wider (toStart (m .plan) (passOf m) .ahead .events) (allStarted (m .plan) (passOf m) .ahead .events) = starts-wider (m .plan .setting .options) (m .plan .clock) (toStart (m .plan) (passOf m)) (placings (passOf m)) (t .size) in
+      let s : Wider (toStart (m .plan) (passOf m) .ahead .events) (allStarted (m .plan) (passOf m) .ahead .events) =
+      starts-wider (m .plan .setting .options) (m .plan .clock) (toStart (m .plan) (passOf m)) (placings (passOf m)) (t .size) in
       rw (settled-is m .1) (s .stays i (ap used (t .stays i u) ∙ u) ∙ t .stays i u)
 
   -- a job in its last run goes on
@@ -116,12 +120,15 @@ module _ (jobs₀ : List Job) (k : ℕ) (h : List Decision) (m : Moment) (a : Am
   unfolding passOf newPass newLine sorted
   pass-spares j l =
       let p : Plan = m .plan in
-      pass-keeps (p .setting) (p .clock) (p .gpus) (p .jobs) (newLine (p .queue) (p .waiting) (p .totals) (m .log) (m .ok)) (a .between .gpus) (a .between .good .size) (new-sized (p .queue) (p .waiting) (p .totals) (m .log) (m .ok) (a .between .queue) (a .table)) refl (λ q. jobAt (q .jobs) j ≡ jobAt (p .jobs) j) (spared (p .setting) (p .clock) j (jobAt (p .jobs) j) l) refl
+      pass-keeps (p .setting) (p .clock) (p .gpus) (p .jobs) (newLine (p .queue) (p .waiting) (p .totals) (m .log) (m .ok)) (a .between .gpus)
+      (a .between .good .size) (new-sized (p .queue) (p .waiting) (p .totals) (m .log) (m .ok) (a .between .queue) (a .table)) refl
+      (λ q. jobAt (q .jobs) j ≡ jobAt (p .jobs) j) (spared (p .setting) (p .clock) j (jobAt (p .jobs) j) l) refl
 
   -- no job of another state than placed is placed
   not-placed : (j : ℕ) (st : JobState) → jobAt (passOf m .jobs) j .state ≡ st → (st ≡ Placed → ⊥) → has j (placedOf (passOf m)) ≡ false
   not-placed j st e n =
-      fails (has j (placedOf (passOf m))) (λ t. n (sym e ∙ has-all (InState Placed (passOf m .jobs)) j (placedOf (passOf m)) (standing-of jobs₀ k h m a .placed-are) t .1))
+      fails (has j (placedOf (passOf m))) (λ t. n
+      (sym e ∙ has-all (InState Placed (passOf m .jobs)) j (placedOf (passOf m)) (standing-of jobs₀ k h m a .placed-are) t .1))
 
   pub settled-spares : (j : ℕ) → Last (jobAt (m .plan .jobs) j) → jobAt (settled m .plan .jobs) j ≡ jobAt (m .plan .jobs) j
   settled-spares j l =
@@ -132,8 +139,14 @@ module _ (jobs₀ : List Job) (k : ℕ) (h : List Decision) (m : Moment) (a : Am
   pub settled-finished : (j : ℕ) → jobAt (m .plan .jobs) j .state ≡ Finished → jobAt (settled m .plan .jobs) j ≡ jobAt (m .plan .jobs) j
   settled-finished j f =
       let c : Changes (m .plan .clock) (m .plan .jobs) (passOf m) = changes-of jobs₀ k h m a in
-      let v : has j (victimsOf (passOf m .line)) ≡ false = fails (has j (victimsOf (passOf m .line))) (λ t. never-both (ap runs (has-all (λ i. (jobAt (m .plan .jobs) i .state ≡ Running) × (jobAt (passOf m .jobs) i ≡ Life.evicted (jobAt (m .plan .jobs) i) (m .plan .clock))) j (victimsOf (passOf m .line)) (c .evicted) t .0)) (ap runs f)) in
-      let w : has j (placedOf (passOf m)) ≡ false = fails (has j (placedOf (passOf m))) (λ t. never-both (ap waitsIn (has-all (λ i. (jobAt (m .plan .jobs) i .state ≡ Waiting) × (jobAt (passOf m .jobs) i ≡ Life.placed (jobAt (m .plan .jobs) i))) j (placedOf (passOf m)) (c .placed) t .0)) (ap waitsIn f)) in
+      let v : has j (victimsOf (passOf m .line)) ≡ false =
+      fails (has j (victimsOf (passOf m .line)))
+      (λ t. never-both (ap runs (has-all (λ i. (jobAt (m .plan .jobs) i .state ≡ Running) ×
+      (jobAt (passOf m .jobs) i ≡ Life.evicted (jobAt (m .plan .jobs) i) (m .plan .clock))) j (victimsOf (passOf m .line)) (c .evicted) t .0)) (ap runs f)) in
+      let w : has j (placedOf (passOf m)) ≡ false =
+      fails (has j (placedOf (passOf m))) (λ t. never-both
+      (ap waitsIn (has-all (λ i. (jobAt (m .plan .jobs) i .state ≡ Waiting) × (jobAt (passOf m .jobs) i ≡ Life.placed (jobAt (m .plan .jobs) i)))
+      j (placedOf (passOf m)) (c .placed) t .0)) (ap waitsIn f)) in
       settled-other j (c .others j v w) w
 
   -- ---- the decisions
@@ -142,15 +155,19 @@ module _ (jobs₀ : List Job) (k : ℕ) (h : List Decision) (m : Moment) (a : Am
   unfolding passOf newLine
   evictions-told =
       let p : Plan = m .plan in
-      pass-told (p .setting) (p .clock) (p .gpus) (p .jobs) (newLine (p .queue) (p .waiting) (p .totals) (m .log) (m .ok)) (a .between .gpus) (a .between .good .size) (new-sized (p .queue) (p .waiting) (p .totals) (m .log) (m .ok) (a .between .queue) (a .table)) refl (a .own)
+      pass-told (p .setting) (p .clock) (p .gpus) (p .jobs) (newLine (p .queue) (p .waiting) (p .totals) (m .log) (m .ok)) (a .between .gpus)
+      (a .between .good .size) (new-sized (p .queue) (p .waiting) (p .totals) (m .log) (m .ok) (a .between .queue) (a .table)) refl (a .own)
 
   -- the event's own, the evictions, the starts
-  pub settled-told : decisions (settled m .log) ≡ decisions (m .log) ++ (evictions-told .evictions ++ startsTold (m .plan .setting .options) (m .plan .clock) (toStart (m .plan) (passOf m)) (placings (passOf m)))
+  pub settled-told : decisions (settled m .log) ≡ decisions (m .log) ++
+      (evictions-told .evictions ++ startsTold (m .plan .setting .options) (m .plan .clock) (toStart (m .plan) (passOf m)) (placings (passOf m)))
   settled-told =
       let so : Standing (passOf m) = standing-of jobs₀ k h m a in
       let l : length (placings (passOf m)) ≡ passOf m .count = sym (length-map (placings (passOf m)) (λ x. x .job)) ∙ so .count in
       let ss : List Decision = startsTold (m .plan .setting .options) (m .plan .clock) (toStart (m .plan) (passOf m)) (placings (passOf m)) in
-      ap decisions (settled-is m .2) ∙ all-decisions (m .plan .setting .options) (m .plan .clock) (toStart (m .plan) (passOf m)) (placings (passOf m)) (so .line .log) (omega (arith, l, evictions-told .count, a .own, few (passOf m) so)) ∙ ap (λ (r : List Decision). r ++ ss) (evictions-told .all) ∙ append-assoc (decisions (m .log)) (evictions-told .evictions) ss
+      ap decisions (settled-is m .2) ∙ all-decisions (m .plan .setting .options) (m .plan .clock) (toStart (m .plan) (passOf m))
+      (placings (passOf m)) (so .line .log) (omega (arith, l, evictions-told .count, a .own, few (passOf m) so))
+      ∙ ap (λ (r : List Decision). r ++ ss) (evictions-told .all) ∙ append-assoc (decisions (m .log)) (evictions-told .evictions) ss
 
 -- ---- the completion
 
@@ -158,7 +175,8 @@ completes-goes : (p : Plan) (id : ℕ) → completes p id .goes ≡ true
 unfolding completes said
 completes-goes p id = refl
 
-completes-told : (p : Plan) (id : ℕ) → decisions (completes p id .log) ≡ record { time = bitsOf (p .clock); kind = Kinds.Completed; job = id; other = amount (jobAt (p .jobs) id .ask) } ∷ []
+completes-told : (p : Plan) (id : ℕ) → decisions (completes p id .log) ≡ record
+    { time = bitsOf (p .clock); kind = Kinds.Completed; job = id; other = amount (jobAt (p .jobs) id .ask) } ∷ []
 unfolding completes said told emptyLog
 completes-told p id = refl
 
@@ -177,7 +195,11 @@ module _ (j i : ℕ) (p : Plan) (id : ℕ) (other : j ≡ id → ⊥) where
   arrives-on s u =
       let x : Job = Life.waits (Happen.jobOf p id) (p .clock) in
       let a : Ahead = record { events = p .events; next = p .next; ok = true } in
-      record { job = getD-set-other (p .jobs) id j x noJob other; entry = timeout-beside (p .events) a id x (x .ask .arrival) (beside-none (p .events) s) .wider .stays i u }
+      record {
+        job = getD-set-other (p .jobs) id j x noJob other;
+        entry =
+            timeout-beside (p .events) a id x (x .ask .arrival) (beside-none (p .events) s) .wider .stays i u;
+      }
 
   completes-on : RunGoesOn p j i (completes p id .plan)
   unfolding completes said
@@ -193,7 +215,8 @@ stale-on j i p = record { job = refl; entry = refl }
 
 -- ---- one step
 
-module _ (jobs₀ : List Job) (k : ℕ) (h : List Decision) (p : Plan) (b : Between jobs₀ k h p) (event : hasEvent p ≡ true) (ends : Ends p) (j i : ℕ) (last : Last (jobAt (p .jobs) j)) (x : EndOf j (jobAt (p .jobs) j .run) (eventAt (p .events) i)) where
+module _ (jobs₀ : List Job) (k : ℕ) (h : List Decision) (p : Plan) (b : Between jobs₀ k h p) (event : hasEvent p ≡ true) (ends : Ends p) (j i : ℕ)
+    (last : Last (jobAt (p .jobs) j)) (x : EndOf j (jobAt (p .jobs) j .run) (eventAt (p .events) i)) where
   same-jobs : withEvent p .jobs ≡ p .jobs
   unfolding withEvent
   same-jobs = refl
@@ -215,8 +238,12 @@ module _ (jobs₀ : List Job) (k : ℕ) (h : List Decision) (p : Plan) (b : Betw
     moment-is =
         let y : EndOf j (jobAt (p .jobs) j .run) (nextEvent p) = rw next-is x in
         let r : jobAt (withEvent p .jobs) (nextEvent p .job) ≡ jobAt (p .jobs) j = rw (same-jobs, y .job) in
-        let t : ofRun (Happen.jobOf (withEvent p) (nextEvent p .job)) (nextEvent p .generation) ≡ true = both-and (runs (jobAt (withEvent p .jobs) (nextEvent p .job) .state)) (eqb (jobAt (withEvent p .jobs) (nextEvent p .job) .run) (nextEvent p .generation)) (rw (r, last .0)) (eq-eqb (jobAt (withEvent p .jobs) (nextEvent p .job) .run) (nextEvent p .generation) (rw r (sym (y .generation)))) in
-        ap (λ (kind : EventKind). byKind kind (withEvent p) (nextEvent p)) (y .kind) ∙ ap (λ (c : Bool). pick c (completes (withEvent p) (nextEvent p .job)) (stale (withEvent p))) t ∙ ap (completes (withEvent p)) (y .job)
+        let t : ofRun (Happen.jobOf (withEvent p) (nextEvent p .job)) (nextEvent p .generation) ≡ true =
+        both-and (runs (jobAt (withEvent p .jobs) (nextEvent p .job) .state))
+        (eqb (jobAt (withEvent p .jobs) (nextEvent p .job) .run) (nextEvent p .generation)) (rw (r, last .0))
+        (eq-eqb (jobAt (withEvent p .jobs) (nextEvent p .job) .run) (nextEvent p .generation) (rw r (sym (y .generation)))) in
+        ap (λ (kind : EventKind). byKind kind (withEvent p) (nextEvent p)) (y .kind)
+        ∙ ap (λ (c : Bool). pick c (completes (withEvent p) (nextEvent p .job)) (stale (withEvent p))) t ∙ ap (completes (withEvent p)) (y .job)
 
     step-is : settled (completes (withEvent p) j) ≡ advanced p
     step-is = advanced-goes p (completes (withEvent p) j) (sym moment-is) (settled (completes (withEvent p) j)) (completes-goes (withEvent p) j) refl
@@ -233,7 +260,8 @@ module _ (jobs₀ : List Job) (k : ℕ) (h : List Decision) (p : Plan) (b : Betw
     ends-so : RunEnds p j i (settled (completes (withEvent p) j) .plan) (decisions (settled (completes (withEvent p) j) .log))
     ends-so =
         let m : Moment = completes (withEvent p) j in
-        let rest : List Decision = evictions-told jobs₀ (k + 1) h m amid .evictions ++ startsTold (m .plan .setting .options) (m .plan .clock) (toStart (m .plan) (passOf m)) (placings (passOf m)) in
+        let rest : List Decision = evictions-told jobs₀ (k + 1) h m amid .evictions ++ startsTold (m .plan .setting .options) (m .plan .clock)
+        (toStart (m .plan) (passOf m)) (placings (passOf m)) in
         record {
           taken = e;
           rest = rest;
@@ -259,14 +287,17 @@ module _ (jobs₀ : List Job) (k : ℕ) (h : List Decision) (p : Plan) (b : Betw
 
     -- a job that does not run is another
     other-job : (id : ℕ) (st : JobState) → jobAt (withEvent p .jobs) id .state ≡ st → runs st ≡ false → j ≡ id → ⊥
-    other-job id st s f z = never-both (ap runs (last .0)) (ap (λ (y : ℕ). runs (jobAt (p .jobs) y .state)) z ∙ ap (λ (y : List Job). runs (jobAt y id .state)) (sym same-jobs) ∙ ap runs s ∙ f)
+    other-job id st s f z = never-both (ap runs (last .0))
+        (ap (λ (y : ℕ). runs (jobAt (p .jobs) y .state)) z ∙ ap (λ (y : List Job). runs (jobAt y id .state)) (sym same-jobs) ∙ ap runs s ∙ f)
 
     kind-on : (kind : EventKind) → nextEvent p .kind ≡ kind → RunGoesOn (withEvent p) j i (byKind kind (withEvent p) (nextEvent p) .plan)
     unfolding completed timedOut
     kind-on Empty q = stale-on j i (withEvent p)
     kind-on Arrival q =
         arrives-on j i (withEvent p) (nextEvent p .job)
-        (λ z. let c : came (jobAt (p .jobs) (nextEvent p .job) .state) ≡ 0 = arrival-facts jobs₀ k h p b event q .2 in let d : came (jobAt (p .jobs) j .state) ≡ came (jobAt (p .jobs) (nextEvent p .job) .state) = ap (λ (y : ℕ). came (jobAt (p .jobs) y .state)) z in let f : came (jobAt (p .jobs) j .state) ≡ 1 = ap came (last .0) in omega (arith, c, d, f))
+        (λ z. let c : came (jobAt (p .jobs) (nextEvent p .job) .state) ≡ 0 =
+        arrival-facts jobs₀ k h p b event q .2 in let d : came (jobAt (p .jobs) j .state) ≡ came (jobAt (p .jobs) (nextEvent p .job) .state) =
+        ap (λ (y : ℕ). came (jobAt (p .jobs) y .state)) z in let f : came (jobAt (p .jobs) j .state) ≡ 1 = ap came (last .0) in omega (arith, c, d, f))
         (event-taken jobs₀ k h p b event .counted .size) in-use
     kind-on Completion q =
         pick-cases
@@ -276,8 +307,11 @@ module _ (jobs₀ : List Job) (k : ℕ) (h : List Decision) (p : Plan) (b : Betw
         (stale (withEvent p))
         (λ t. completes-on j i (withEvent p) (nextEvent p .job)
         (λ z.
-        let g : eqb (jobAt (withEvent p .jobs) (nextEvent p .job) .run) (nextEvent p .generation) ≡ true = and-both (runs (jobAt (withEvent p .jobs) (nextEvent p .job) .state)) (eqb (jobAt (withEvent p .jobs) (nextEvent p .job) .run) (nextEvent p .generation)) t .1 in
-        let r : jobAt (p .jobs) j .run ≡ jobAt (withEvent p .jobs) (nextEvent p .job) .run = ap (λ (y : ℕ). jobAt (p .jobs) y .run) z ∙ ap (λ (y : List Job). jobAt y (nextEvent p .job) .run) (sym same-jobs) in
+        let g : eqb (jobAt (withEvent p .jobs) (nextEvent p .job) .run) (nextEvent p .generation) ≡ true =
+        and-both (runs (jobAt (withEvent p .jobs) (nextEvent p .job) .state))
+        (eqb (jobAt (withEvent p .jobs) (nextEvent p .job) .run) (nextEvent p .generation)) t .1 in
+        let r : jobAt (p .jobs) j .run ≡ jobAt (withEvent p .jobs) (nextEvent p .job) .run = ap (λ (y : ℕ). jobAt (p .jobs) y .run) z
+        ∙ ap (λ (y : List Job). jobAt y (nextEvent p .job) .run) (sym same-jobs) in
         not-this (record { kind = q; job = sym z; generation = sym (r ∙ eqb-true (jobAt (withEvent p .jobs) (nextEvent p .job) .run) (nextEvent p .generation) g) })))
         (λ f. stale-on j i (withEvent p))
     kind-on Timeout q =
@@ -286,7 +320,10 @@ module _ (jobs₀ : List Job) (k : ℕ) (h : List Decision) (p : Plan) (b : Betw
         (ofTimeout (Happen.jobOf (withEvent p) (nextEvent p .job)) (nextEvent p .generation))
         (timesOut (withEvent p) (nextEvent p .job))
         (stale (withEvent p))
-        (λ t. fails-on j i (withEvent p) (nextEvent p .job) (other-job (nextEvent p .job) Waiting (waits-only (jobAt (withEvent p .jobs) (nextEvent p .job) .state) (and-both (waitsIn (jobAt (withEvent p .jobs) (nextEvent p .job) .state)) (eqb (jobAt (withEvent p .jobs) (nextEvent p .job) .timeouts) (nextEvent p .generation)) t .0)) refl))
+        (λ t. fails-on j i (withEvent p) (nextEvent p .job)
+        (other-job (nextEvent p .job) Waiting (waits-only (jobAt (withEvent p .jobs) (nextEvent p .job) .state)
+        (and-both (waitsIn (jobAt (withEvent p .jobs) (nextEvent p .job) .state))
+        (eqb (jobAt (withEvent p .jobs) (nextEvent p .job) .timeouts) (nextEvent p .generation)) t .0)) refl))
         (λ f. stale-on j i (withEvent p))
 
     happened-on : RunGoesOn p j i (happened (withEvent p) (nextEvent p) .plan)

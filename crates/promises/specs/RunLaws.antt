@@ -37,12 +37,14 @@ whole r k = record { answer = Accepted; found = r; used = k }
 -- These records, whole and without fault, stand one behind the other in the bytes up to the place, and have been put into the tables in that order.
 pub data Reached (trace : List ℕ) : List Record → ℕ → Tables → Type 0 where
   begin : Reached trace [] 0 emptyTables
-  onward : {rs : List Record} {at : ℕ} {t : Tables} → Reached trace rs at t → (r : Record) (k : ℕ) → recordRead (drop at trace) ≡ whole r k → isEnd r ≡ false → faultOf (t .setting) (t .told) at r ≡ Accepted → Reached trace (rs ++ (r ∷ [])) (at + k) (putRecord t r)
+  onward : {rs : List Record} {at : ℕ} {t : Tables} → Reached trace rs at t → (r : Record) (k : ℕ) → recordRead (drop at trace) ≡ whole r k →
+      isEnd r ≡ false → faultOf (t .setting) (t .told) at r ≡ Accepted → Reached trace (rs ++ (r ∷ [])) (at + k) (putRecord t r)
 
 -- The refusal at a place: the record there cannot be read, or it has a fault after those before it, or it is the end and bytes follow.
 pub data Stopped (trace : List ℕ) (at : ℕ) (t : Tables) : Answer → Type 0 where
   unread : accepted (recordRead (drop at trace) .answer) ≡ false → Stopped trace at t (shifted at (recordRead (drop at trace) .answer))
-  faulty : (r : Record) (k : ℕ) → recordRead (drop at trace) ≡ whole r k → isEnd r ≡ false → accepted (faultOf (t .setting) (t .told) at r) ≡ false → Stopped trace at t (faultOf (t .setting) (t .told) at r)
+  faulty : (r : Record) (k : ℕ) → recordRead (drop at trace) ≡ whole r k → isEnd r ≡ false → accepted (faultOf (t .setting) (t .told) at r) ≡ false →
+      Stopped trace at t (faultOf (t .setting) (t .told) at r)
   after : (k : ℕ) → recordRead (drop at trace) ≡ whole R.End k → (at + k ≡ length trace → ⊥) → Stopped trace at t (AfterEnd (at + k))
 
 -- The records from a place on, up to the end record, which is left out.
@@ -58,8 +60,10 @@ recordsOf trace = recordsFrom (length trace) trace 0
 
 -- What a load came to: the end record right at the trace's end, behind all its records; or a refusal.
 pub data Outcome (trace : List ℕ) : Loaded → Type 0 where
-  done : (rs : List Record) (at k : ℕ) (t : Tables) → rs ≡ recordsOf trace → Reached trace rs at t → recordRead (drop at trace) ≡ whole R.End k → at + k ≡ length trace → Outcome trace (record { answer = Accepted; plan = planOf t })
-  stopped : (rs : List Record) (at : ℕ) (t : Tables) (a : Answer) → Reached trace rs at t → Stopped trace at t a → length trace ≤ Sizes.traceBytes → Outcome trace (refused a)
+  done : (rs : List Record) (at k : ℕ) (t : Tables) → rs ≡ recordsOf trace → Reached trace rs at t → recordRead (drop at trace) ≡ whole R.End k →
+      at + k ≡ length trace → Outcome trace (record { answer = Accepted; plan = planOf t })
+  stopped : (rs : List Record) (at : ℕ) (t : Tables) (a : Answer) → Reached trace rs at t → Stopped trace at t a → length trace ≤ Sizes.traceBytes →
+      Outcome trace (refused a)
   long : Sizes.traceBytes < length trace → Outcome trace (refused (TooLong Sizes.traceBytes))
 
 -- ---- one turn
@@ -94,7 +98,8 @@ record-none = rw number-none
 
 -- the ways of one turn
 data Turned (trace : List ℕ) (at : ℕ) (t : Tables) : Turn → Type 0 where
-  on : (r : Record) (k : ℕ) → recordRead (drop at trace) ≡ whole r k → isEnd r ≡ false → faultOf (t .setting) (t .told) at r ≡ Accepted → Turned trace at t (turnOn (at + k) (putRecord t r))
+  on : (r : Record) (k : ℕ) → recordRead (drop at trace) ≡ whole r k → isEnd r ≡ false → faultOf (t .setting) (t .told) at r ≡ Accepted →
+      Turned trace at t (turnOn (at + k) (putRecord t r))
   ended : (k : ℕ) → recordRead (drop at trace) ≡ whole R.End k → at + k ≡ length trace → Turned trace at t (turnOver Accepted t)
   over : (a : Answer) → Stopped trace at t a → accepted a ≡ false → Turned trace at t (turnOver a t)
 
@@ -106,11 +111,14 @@ follow-turned trace at k r t e = by-end (isEnd r) refl
     by-length true f g = ended k (rw (end-is r g) at e) (eqb-true (at + k) (length trace) f)
     by-length false f g = over (AfterEnd (at + k)) (after k (rw (end-is r g) at e) (eqb-false (at + k) (length trace) f)) refl
 
-    by-fault : (b : Bool) → accepted (faultOf (t .setting) (t .told) at r) ≡ b → isEnd r ≡ false → Turned trace at t (pick b (turnOn (at + k) (putRecord t r)) (turnOver (faultOf (t .setting) (t .told) at r) t))
+    by-fault : (b : Bool) → accepted (faultOf (t .setting) (t .told) at r) ≡ b → isEnd r ≡ false →
+        Turned trace at t (pick b (turnOn (at + k) (putRecord t r)) (turnOver (faultOf (t .setting) (t .told) at r) t))
     by-fault true f g = on r k e g (accepted-is (faultOf (t .setting) (t .told) at r) f)
     by-fault false f g = over (faultOf (t .setting) (t .told) at r) (faulty r k e g f) f
 
-    by-end : (b : Bool) → isEnd r ≡ b → Turned trace at t (pick b (pick (eqb (at + k) (length trace)) (turnOver Accepted t) (turnOver (AfterEnd (at + k)) t)) (pick (accepted (faultOf (t .setting) (t .told) at r)) (turnOn (at + k) (putRecord t r)) (turnOver (faultOf (t .setting) (t .told) at r) t)))
+    by-end : (b : Bool) → isEnd r ≡ b → Turned trace at t
+        (pick b (pick (eqb (at + k) (length trace)) (turnOver Accepted t) (turnOver (AfterEnd (at + k)) t))
+        (pick (accepted (faultOf (t .setting) (t .told) at r)) (turnOn (at + k) (putRecord t r)) (turnOver (faultOf (t .setting) (t .told) at r) t)))
     by-end true g = by-length (eqb (at + k) (length trace)) refl g
     by-end false g = by-fault (accepted (faultOf (t .setting) (t .told) at r)) refl g
 
@@ -118,7 +126,9 @@ turn-turned : (trace : List ℕ) (at : ℕ) (t : Tables) → Turned trace at t (
 unfolding turn
 turn-turned trace at t = by-read (accepted (recordRead (drop at trace) .answer)) refl
   where
-    by-read : (b : Bool) → accepted (recordRead (drop at trace) .answer) ≡ b → Turned trace at t (pick b (follow (length trace) at (at + recordRead (drop at trace) .used) (recordRead (drop at trace) .found) t) (turnOver (shifted at (recordRead (drop at trace) .answer)) t))
+    by-read : (b : Bool) → accepted (recordRead (drop at trace) .answer) ≡ b →
+        Turned trace at t (pick b (follow (length trace) at (at + recordRead (drop at trace) .used) (recordRead (drop at trace) .found) t)
+        (turnOver (shifted at (recordRead (drop at trace) .answer)) t))
     by-read true f =
         let a : recordRead (drop at trace) .answer ≡ Accepted = accepted-is (recordRead (drop at trace) .answer) f in
         let e : recordRead (drop at trace) ≡ whole (recordRead (drop at trace) .found) (recordRead (drop at trace) .used) = rw (← a) in
@@ -154,7 +164,8 @@ reached-inside {trace} (onward {at = at} w r k e g f) = takes-inside trace at r 
 -- ---- all turns
 
 -- the records from a place on, one at a time
-records-on : (m : ℕ) (trace : List ℕ) (at k : ℕ) (r : Record) → recordRead (drop at trace) ≡ whole r k → isEnd r ≡ false → recordsFrom (suc m) trace at ≡ r ∷ recordsFrom m trace (at + k)
+records-on : (m : ℕ) (trace : List ℕ) (at k : ℕ) (r : Record) → recordRead (drop at trace) ≡ whole r k → isEnd r ≡ false →
+    recordsFrom (suc m) trace at ≡ r ∷ recordsFrom m trace (at + k)
 unfolding recordsFrom
 records-on m trace at k r e g = rw (e, g)
 
@@ -170,7 +181,8 @@ finished-done : (t : Tables) → finished (turnOver Accepted t) ≡ record { ans
 unfolding finished
 finished-done t = refl
 
-turns-outcome : (m : ℕ) (trace : List ℕ) (rs : List Record) (at : ℕ) (t : Tables) → Reached trace rs at t → length trace ≤ at + m → length trace ≤ Sizes.traceBytes → rs ++ recordsFrom m trace at ≡ recordsOf trace → Outcome trace (turns m trace at t)
+turns-outcome : (m : ℕ) (trace : List ℕ) (rs : List Record) (at : ℕ) (t : Tables) → Reached trace rs at t → length trace ≤ at + m →
+    length trace ≤ Sizes.traceBytes → rs ++ recordsFrom m trace at ≡ recordsOf trace → Outcome trace (turns m trace at t)
 unfolding turns
 turns-outcome zero trace rs at t w h s e =
     let i : at ≤ length trace = reached-inside w in
@@ -183,10 +195,14 @@ turns-outcome zero trace rs at t w h s e =
     rw z (stopped rs at t (EndsEarly (at + 0)) w q s)
 turns-outcome (suc m) trace rs at t w h s e = by-turn (turn trace at t) (turn-turned trace at t) (turns-outcome m trace)
   where
-    by-turn : (u : Turn) → Turned trace at t u → ((qs : List Record) (b : ℕ) (v : Tables) → Reached trace qs b v → length trace ≤ b + m → length trace ≤ Sizes.traceBytes → qs ++ recordsFrom m trace b ≡ recordsOf trace → Outcome trace (turns m trace b v)) → Outcome trace (pick (u .over) (finished u) (turns m trace (u .at) (u .tables)))
+    by-turn : (u : Turn) → Turned trace at t u →
+        ((qs : List Record) (b : ℕ) (v : Tables) → Reached trace qs b v → length trace ≤ b + m → length trace ≤ Sizes.traceBytes →
+        qs ++ recordsFrom m trace b ≡ recordsOf trace → Outcome trace (turns m trace b v)) →
+        Outcome trace (pick (u .over) (finished u) (turns m trace (u .at) (u .tables)))
     by-turn u (on r k f g x) i =
         let o : 1 ≤ k = takes-some (drop at trace) r k f in
-        let j : (rs ++ (r ∷ [])) ++ recordsFrom m trace (at + k) ≡ recordsOf trace = rw (append-assoc rs (r ∷ []) (recordsFrom m trace (at + k)), ← records-on m trace at k r f g) e in
+        let j : (rs ++ (r ∷ [])) ++ recordsFrom m trace (at + k) ≡ recordsOf trace =
+        rw (append-assoc rs (r ∷ []) (recordsFrom m trace (at + k)), ← records-on m trace at k r f g) e in
         i (rs ++ (r ∷ [])) (at + k) (putRecord t r) (onward w r k f g x) (omega arith) s j
     by-turn u (ended k f x) i =
         let j : rs ≡ recordsOf trace = sym (append-nil rs) ∙ rw (records-end m trace at k f) at e in
@@ -198,7 +214,8 @@ pub load-outcome : (trace : List ℕ) → Outcome trace (load trace)
 unfolding load recordsOf
 load-outcome trace = by-length (ltb Sizes.traceBytes (length trace)) refl
   where
-    by-length : (b : Bool) → ltb Sizes.traceBytes (length trace) ≡ b → Outcome trace (pick b (refused (TooLong Sizes.traceBytes)) (turns (length trace) trace 0 emptyTables))
+    by-length : (b : Bool) → ltb Sizes.traceBytes (length trace) ≡ b →
+        Outcome trace (pick b (refused (TooLong Sizes.traceBytes)) (turns (length trace) trace 0 emptyTables))
     by-length true e = long (ltb-true Sizes.traceBytes (length trace) e)
     by-length false e = turns-outcome (length trace) trace [] 0 emptyTables begin (omega arith) (ltb-false Sizes.traceBytes (length trace) e) refl
 

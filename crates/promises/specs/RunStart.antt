@@ -53,9 +53,11 @@ pub record Fixed (options : Options) (jobs : List Job) (events : List Event) (d 
   pub time : eventAt events entry .time ≡ Life.completionAt (jobAt jobs (d .job)) (jobAt jobs (d .job) .start) (Life.multiplierOf options penalised)
 
 -- it stays so where the job and the entries in use stay
-fixed-kept : (options : Options) (jobs after : List Job) (events wider : List Event) (d : Decision) → jobAt after (d .job) ≡ jobAt jobs (d .job) → Wider events wider → Fixed options jobs events d → Fixed options after wider d
+fixed-kept : (options : Options) (jobs after : List Job) (events wider : List Event) (d : Decision) → jobAt after (d .job) ≡ jobAt jobs (d .job) →
+    Wider events wider → Fixed options jobs events d → Fixed options after wider d
 fixed-kept options jobs after events wider d e w f =
-    let s : eventAt wider (f .entry) ≡ eventAt events (f .entry) = w .stays (f .entry) (end-used (d .job) (jobAt jobs (d .job) .run) (eventAt events (f .entry)) (f .is)) in
+    let s : eventAt wider (f .entry) ≡ eventAt events (f .entry) =
+    w .stays (f .entry) (end-used (d .job) (jobAt jobs (d .job) .run) (eventAt events (f .entry)) (f .is)) in
     record {
       runs-now = rw e (f .runs-now);
       at = rw e (f .at);
@@ -66,30 +68,42 @@ fixed-kept options jobs after events wider d e w f =
     }
 
 module _ (options : Options) (clock : Float) where
-  begun-fixed : (b : Begun) (p : Placing) → p .job < length (b .jobs) → length (b .ahead .events) ≡ 1152 → inUse (b .ahead .events) < 1152 → Fixed options (Begin.begun options clock b p .jobs) (Begin.begun options clock b p .ahead .events) (startTold options clock b p)
+  begun-fixed : (b : Begun) (p : Placing) → p .job < length (b .jobs) → length (b .ahead .events) ≡ 1152 → inUse (b .ahead .events) < 1152 →
+      Fixed options (Begin.begun options clock b p .jobs) (Begin.begun options clock b p .ahead .events) (startTold options clock b p)
   unfolding Life.started
   begun-fixed b p inside size room =
       let i : ℕ = firstFree (b .ahead .events) in
-      let e : eventAt (Begin.begun options clock b p .ahead .events) i ≡ completionOf options clock b p = rw (begun-events options clock b p) (added-there (b .ahead .events) size room (completionOf options clock b p)) in
+      let e : eventAt (Begin.begun options clock b p .ahead .events) i ≡ completionOf options clock b p =
+      rw (begun-events options clock b p) (added-there (b .ahead .events) size room (completionOf options clock b p)) in
       record {
         runs-now = begun-runs options clock b p inside;
         at = begun-time options clock b p inside;
         entry = i;
-        is = record { kind = ap (λ (x : Event). x .kind) e; job = ap (λ (x : Event). x .job) e; generation = ap (λ (x : Event). x .generation) e ∙ begun-generation options clock b p inside };
+        is = record {
+          kind = ap (λ (x : Event). x .kind) e;
+          job = ap (λ (x : Event). x .job) e;
+          generation = ap (λ (x : Event). x .generation) e
+              ∙ begun-generation options clock b p inside;
+        };
         penalised = p .penalised;
         time = ap (λ (x : Event). x .time) e ∙ rw (begun-started options clock b p inside);
       }
 
   -- each start that is told
-  starts-fixed : (b : Begun) (ps : List Placing) → Distinct (jobsOf ps) → All (Fresh options clock (b .jobs)) (jobsOf ps) → length (b .ahead .events) ≡ 1152 → inUse (begunAll options clock b ps .ahead .events) < 1152 → All (Fixed options (begunAll options clock b ps .jobs) (begunAll options clock b ps .ahead .events)) (startsTold options clock b ps)
+  starts-fixed : (b : Begun) (ps : List Placing) → Distinct (jobsOf ps) → All (Fresh options clock (b .jobs)) (jobsOf ps) →
+      length (b .ahead .events) ≡ 1152 → inUse (begunAll options clock b ps .ahead .events) < 1152 →
+      All (Fixed options (begunAll options clock b ps .jobs) (begunAll options clock b ps .ahead .events)) (startsTold options clock b ps)
   unfolding begunAll startsTold
   starts-fixed b [] d l s r = tt
   starts-fixed b (p ∷ ps) d l s r =
       let c : Begun = Begin.begun options clock b p in
       let w : Wider (b .ahead .events) (c .ahead .events) = starts-wider options clock b (p ∷ []) s in
       let v : Wider (c .ahead .events) (begunAll options clock c ps .ahead .events) = starts-wider options clock c ps (w .size) in
-      let f : Fixed options (c .jobs) (c .ahead .events) (startTold options clock b p) = begun-fixed b p (l .0 .0) s (omega (arith, w .more, v .more, r)) in
-      (fixed-kept options (c .jobs) (begunAll options clock c ps .jobs) (c .ahead .events) (begunAll options clock c ps .ahead .events) (startTold options clock b p) (all-other options clock c ps (p .job) (d .0)) v f, starts-fixed c ps (d .1) (still-fresh options clock b p (jobsOf ps) (d .0) (l .1)) (w .size) r)
+      let f : Fixed options (c .jobs) (c .ahead .events) (startTold options clock b p) = begun-fixed b p (l .0 .0) s (omega (arith, w .more, v .more, r)) in (
+        fixed-kept options (c .jobs) (begunAll options clock c ps .jobs) (c .ahead .events) (begunAll options clock c ps .ahead .events)
+            (startTold options clock b p) (all-other options clock c ps (p .job) (d .0)) v f,
+        starts-fixed c ps (d .1) (still-fresh options clock b p (jobsOf ps) (d .0) (l .1)) (w .size) r,
+      )
 
 -- ---- a step
 
@@ -107,20 +121,24 @@ same-options : (m : Moment) → settled m .plan .setting ≡ m .plan .setting
 unfolding settled withPass
 same-options m = refl
 
-settled-fixed : (jobs₀ : List Job) (k : ℕ) (h : List Decision) (m : Moment) (a : Amid jobs₀ k h m) → 1 ≤ k → All Unstarted (decisions (m .log)) → All (FixedIn (settled m .plan)) (decisions (settled m .log))
+settled-fixed : (jobs₀ : List Job) (k : ℕ) (h : List Decision) (m : Moment) (a : Amid jobs₀ k h m) → 1 ≤ k → All Unstarted (decisions (m .log)) →
+    All (FixedIn (settled m .plan)) (decisions (settled m .log))
 settled-fixed jobs₀ k h m a one u =
     let es : List Decision = evictions-told jobs₀ k h m a .evictions in
     let ss : List Decision = startsTold (m .plan .setting .options) (m .plan .clock) (toStart (m .plan) (passOf m)) (placings (passOf m)) in
-    let e : All Unstarted es = all-weaken (λ d. (d .time ≡ bitsOf (m .plan .clock)) × (d .kind ≡ Kinds.Evicted)) Unstarted es (λ d x. ap isStarted (x .1)) (evictions-told jobs₀ k h m a .each) in
+    let e : All Unstarted es = all-weaken (λ d. (d .time ≡ bitsOf (m .plan .clock)) × (d .kind ≡ Kinds.Evicted)) Unstarted es
+    (λ d x. ap isStarted (x .1)) (evictions-told jobs₀ k h m a .each) in
     let s : All (FixedIn (settled m .plan)) ss =
     all-weaken
     (Fixed (m .plan .setting .options) (settled m .plan .jobs) (settled m .plan .events))
     (FixedIn (settled m .plan))
     ss
     (λ d f t. rw (same-options m) f)
-    (rw (settled-is m .0, settled-is m .1) (starts-fixed (m .plan .setting .options) (m .plan .clock) (toStart (m .plan) (passOf m)) (placings (passOf m)) (placed-once jobs₀ k h m a) (placed-fresh jobs₀ k h m a) (timeouts-of jobs₀ k h m a .wider .size) (room-of jobs₀ k h m a one))) in
+    (rw (settled-is m .0, settled-is m .1) (starts-fixed (m .plan .setting .options) (m .plan .clock) (toStart (m .plan) (passOf m))
+    (placings (passOf m)) (placed-once jobs₀ k h m a) (placed-fresh jobs₀ k h m a) (timeouts-of jobs₀ k h m a .wider .size) (room-of jobs₀ k h m a one))) in
     rw (settled-told jobs₀ k h m a)
-    (all-append (FixedIn (settled m .plan)) (decisions (m .log)) (es ++ ss) (unstarted-fixed (settled m .plan) (decisions (m .log)) u) (all-append (FixedIn (settled m .plan)) es ss (unstarted-fixed (settled m .plan) es e) s))
+    (all-append (FixedIn (settled m .plan)) (decisions (m .log)) (es ++ ss) (unstarted-fixed (settled m .plan) (decisions (m .log)) u)
+    (all-append (FixedIn (settled m .plan)) es ss (unstarted-fixed (settled m .plan) es e) s))
 
 -- no event's own decision is a start
 stale-unstarted : (p : Plan) → All Unstarted (decisions (stale p .log))
@@ -147,13 +165,17 @@ kind-unstarted : (kind : EventKind) (p : Plan) (e : Event) → All Unstarted (de
 unfolding completed timedOut
 kind-unstarted Empty p e = stale-unstarted p
 kind-unstarted Arrival p e = arrives-unstarted p (e .job)
-kind-unstarted Completion p e = pick-either (λ (m : Moment). All Unstarted (decisions (m .log))) (ofRun (Happen.jobOf p (e .job)) (e .generation)) (completes p (e .job)) (stale p) (completes-unstarted p (e .job)) (stale-unstarted p)
-kind-unstarted Timeout p e = pick-either (λ (m : Moment). All Unstarted (decisions (m .log))) (ofTimeout (Happen.jobOf p (e .job)) (e .generation)) (timesOut p (e .job)) (stale p) (fails-unstarted p (e .job)) (stale-unstarted p)
+kind-unstarted Completion p e = pick-either (λ (m : Moment). All Unstarted (decisions (m .log))) (ofRun (Happen.jobOf p (e .job)) (e .generation))
+    (completes p (e .job)) (stale p) (completes-unstarted p (e .job)) (stale-unstarted p)
+kind-unstarted Timeout p e = pick-either (λ (m : Moment). All Unstarted (decisions (m .log))) (ofTimeout (Happen.jobOf p (e .job)) (e .generation))
+    (timesOut p (e .job)) (stale p) (fails-unstarted p (e .job)) (stale-unstarted p)
 
 -- every start that a step tells
-pub step-fixed : (jobs₀ : List Job) (k : ℕ) (h : List Decision) (p : Plan) → Between jobs₀ k h p → hasEvent p ≡ true → All (FixedIn (advanced p .plan)) (decisions (advanced p .log))
+pub step-fixed : (jobs₀ : List Job) (k : ℕ) (h : List Decision) (p : Plan) → Between jobs₀ k h p → hasEvent p ≡ true →
+    All (FixedIn (advanced p .plan)) (decisions (advanced p .log))
 unfolding advanced
 step-fixed jobs₀ k h p b event =
     let m : Moment = happened (withEvent p) (nextEvent p) in
     let u : All Unstarted (decisions (m .log)) = kind-unstarted (nextEvent p .kind) (withEvent p) (nextEvent p) in
-    pick-either (λ (x : Moment). All (FixedIn (x .plan)) (decisions (x .log))) (m .goes) (settled m) m (settled-fixed jobs₀ (k + 1) h m (happened-amid jobs₀ k h p b event) (omega arith) u) (unstarted-fixed (m .plan) (decisions (m .log)) u)
+    pick-either (λ (x : Moment). All (FixedIn (x .plan)) (decisions (x .log))) (m .goes) (settled m) m
+    (settled-fixed jobs₀ (k + 1) h m (happened-amid jobs₀ k h p b event) (omega arith) u) (unstarted-fixed (m .plan) (decisions (m .log)) u)

@@ -60,7 +60,8 @@ module _ (ws : List ℕ) (h : List Decision) (inside : behind (length h) ≤ len
   image-on ds =
       let n : behind (length h) + length (words ds) ≡ behind (length (h ++ ds)) = omega (arith, words-length ds, length-append h ds) in
       rw (image-front, image-rest, drop-drop (length (words ds)) (behind (length h)) ws, n, words-append h ds)
-      (sym (append-assoc (take 4 ws ++ words h) (words ds) (drop (behind (length (h ++ ds))) ws)) ∙ ap (λ (l : List ℕ). l ++ drop (behind (length (h ++ ds))) ws) (append-assoc (take 4 ws) (words h) (words ds)))
+      (sym (append-assoc (take 4 ws ++ words h) (words ds) (drop (behind (length (h ++ ds))) ws))
+      ∙ ap (λ (l : List ℕ). l ++ drop (behind (length (h ++ ds))) ws) (append-assoc (take 4 ws) (words h) (words ds)))
 
 -- ---- one turn
 
@@ -69,7 +70,9 @@ module _ (P : Run → Type 0) (m : ℕ) (p : Plan) (k c : ℕ) (ws : List ℕ) (
   turn-cases :
       (hasEvent p ≡ false → P (record { head = endedHead 0 k c; words = take (behind c) ws ++ drop (behind c) ws })) →
       (hasEvent p ≡ true → advanced p .ok ≡ false → P (record { head = endedHead 12 k c; words = take (behind c) ws ++ drop (behind c) ws })) →
-      (hasEvent p ≡ true → advanced p .ok ≡ true → P (runTo m (advanced p .plan) (k + 1) (c + min (advanced p .log .count) most) (take (behind c) ws ++ over (words (decisions (advanced p .log))) (drop (behind c) ws)))) →
+      (hasEvent p ≡ true → advanced p .ok ≡ true →
+      P (runTo m (advanced p .plan) (k + 1) (c + min (advanced p .log .count) most)
+      (take (behind c) ws ++ over (words (decisions (advanced p .log))) (drop (behind c) ws)))) →
       P (runTo (suc m) p k c ws)
   unfolding runTo
   turn-cases none barred taken =
@@ -99,12 +102,15 @@ record Leaves (trace ws : List ℕ) (r : Run) : Type 0 where
   left : r ≡ record { head = endedHead (whole .answer) (whole .steps) (length (whole .told)); words = image ws (whole .told) }
 
 module _ (trace ws : List ℕ) (enough : runWords ≤ length ws) where
-  over-now : (k : ℕ) (p : Plan) (h : List Decision) (answer : ℕ) → Reached trace k p h → Ends p answer → Leaves trace ws (record { head = endedHead answer k (length h); words = take (behind (length h)) (image ws h) ++ drop (behind (length h)) (image ws h) })
+  over-now : (k : ℕ) (p : Plan) (h : List Decision) (answer : ℕ) → Reached trace k p h → Ends p answer →
+      Leaves trace ws (record { head = endedHead answer k (length h); words = take (behind (length h)) (image ws h) ++ drop (behind (length h)) (image ws h) })
   over-now k p h answer r e =
       record { whole = record { answer = answer; steps = k; plan = p; told = h; reached = r; ends = e }; left = rw (take-append-drop (behind (length h)) (image ws h)) }
 
   -- one turn of it
-  turn-leaves : (m k : ℕ) (p : Plan) (h : List Decision) → Reached trace k p h → ((q : Plan) (g : List Decision) → Reached trace (k + 1) q g → Leaves trace ws (runTo m q (k + 1) (length g) (image ws g))) → Leaves trace ws (runTo (suc m) p k (length h) (image ws h))
+  turn-leaves : (m k : ℕ) (p : Plan) (h : List Decision) → Reached trace k p h →
+      ((q : Plan) (g : List Decision) → Reached trace (k + 1) q g → Leaves trace ws (runTo m q (k + 1) (length g) (image ws g))) →
+      Leaves trace ws (runTo (suc m) p k (length h) (image ws h))
   turn-leaves m k p h r on =
       let inside : behind (length h) + wordsNeeded ≤ length ws = omega (arith, enough, within trace k p h r .1) in
       let fits : behind (length h) ≤ length ws = omega (arith, inside) in
@@ -144,10 +150,12 @@ unfolding words
 image-none ws = rw (append-nil (take 4 ws)) (take-append-drop 4 ws)
 
 -- the head over the words of a history
-head-over : (a s : ℕ) (ws : List ℕ) (h : List Decision) → 4 ≤ length ws → over (headWords (endedHead a s (length h))) (image ws h) ≡ over (a ∷ 0 ∷ s ∷ length h ∷ words h) ws
+head-over : (a s : ℕ) (ws : List ℕ) (h : List Decision) → 4 ≤ length ws →
+    over (headWords (endedHead a s (length h))) (image ws h) ≡ over (a ∷ 0 ∷ s ∷ length h ∷ words h) ws
 head-over a s ws h l =
     let f : length (take 4 ws) ≡ 4 = length-take-le 4 ws l in
-    let e : drop 4 (image ws h) ≡ words h ++ drop (behind (length h)) ws = ap (drop 4) (append-assoc (take 4 ws) (words h) (drop (behind (length h)) ws)) ∙ drop-at (take 4 ws) (words h ++ drop (behind (length h)) ws) 4 f in
+    let e : drop 4 (image ws h) ≡ words h ++ drop (behind (length h)) ws =
+    ap (drop 4) (append-assoc (take 4 ws) (words h) (drop (behind (length h)) ws)) ∙ drop-at (take 4 ws) (words h ++ drop (behind (length h)) ws) 4 f in
     let n : length (a ∷ 0 ∷ s ∷ length h ∷ words h) ≡ behind (length h) = omega (arith, words-length h) in
     ap (λ (l : List ℕ). a ∷ 0 ∷ s ∷ length h ∷ l) (e ∙ ap (λ (k : ℕ). words h ++ drop k ws) (sym n))
 
@@ -164,7 +172,8 @@ module _ (trace ws : List ℕ) where
 
   module _ (enough : runWords ≤ length ws) where
     -- A refused load: its number and place in front, no step, no decision; the others as they were.
-    pub refused-words : accepted (load trace .answer) ≡ false → (ranAnswer trace ws ≡ numberOf (load trace .answer)) × (ranWords trace ws ≡ over (numberOf (load trace .answer) ∷ placeOf (load trace .answer) ∷ 0 ∷ 0 ∷ []) ws)
+    pub refused-words : accepted (load trace .answer) ≡ false →
+        (ranAnswer trace ws ≡ numberOf (load trace .answer)) × (ranWords trace ws ≡ over (numberOf (load trace .answer) ∷ placeOf (load trace .answer) ∷ 0 ∷ 0 ∷ []) ws)
     refused-words e =
         let h = refusedHead (load trace .answer) in
         let q : (h ≡ ran trace ws .head) × (ws ≡ ran trace ws .words) = ran-refused trace ws (load trace) refl e h refl in
@@ -174,13 +183,22 @@ module _ (trace ws : List ℕ) where
     -- A loaded trace: its whole history, whatever the words were and however many there are.
     pub planned : accepted (load trace .answer) ≡ true → Planned trace ws
     planned e =
-        let r : Leaves trace ws (runTo turns (first trace) 0 (length {A = Decision} []) (image ws [])) = run-leaves trace ws enough turns 0 (first trace) [] (begin (accepted-is (load trace .answer) e)) refl in
-        let f : runTo turns (first trace) 0 0 ws ≡ record { head = endedHead (r .whole .answer) (r .whole .steps) (length (r .whole .told)); words = image ws (r .whole .told) } = ap (runTo turns (first trace) 0 0) (sym (image-none ws)) ∙ r .left in
+        let r : Leaves trace ws (runTo turns (first trace) 0 (length {A = Decision} []) (image ws [])) =
+        run-leaves trace ws enough turns 0 (first trace) [] (begin (accepted-is (load trace .answer) e)) refl in
+        let f : runTo turns (first trace) 0 0 ws ≡ record
+        { head = endedHead (r .whole .answer) (r .whole .steps) (length (r .whole .told)); words = image ws (r .whole .told) } =
+        ap (runTo turns (first trace) 0 0) (sym (image-none ws)) ∙ r .left in
         let h = endedHead (r .whole .answer) (r .whole .steps) (length (r .whole .told)) in
         let out = image ws (r .whole .told) in
-        let q : (h ≡ ran trace ws .head) × (out ≡ ran trace ws .words) = ran-loaded trace ws (load trace) refl e h out (sym (ap (λ (x : Run). x .head) f)) (sym (ap (λ (x : Run). x .words) f)) in
+        let q : (h ≡ ran trace ws .head) × (out ≡ ran trace ws .words) =
+        ran-loaded trace ws (load trace) refl e h out (sym (ap (λ (x : Run). x .head) f)) (sym (ap (λ (x : Run). x .words) f)) in
         let d : Done trace ws _ _ = done-ran trace ws enough h out _ (q .0) (q .1) refl in
-        record { whole = r .whole; answer = sym (d .0); words-are = sym (d .1) ∙ head-over (r .whole .answer) (r .whole .steps) ws (r .whole .told) (omega (arith, enough)) }
+        record {
+          whole = r .whole;
+          answer = sym (d .0);
+          words-are = sym (d .1)
+              ∙ head-over (r .whole .answer) (r .whole .steps) ws (r .whole .told) (omega (arith, enough));
+        }
 
     -- With enough words the answer is never 10.
     pub never-short : ranAnswer trace ws ≡ 10 → ⊥

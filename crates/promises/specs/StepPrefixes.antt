@@ -1,19 +1,16 @@
 -- Condition 2 over whole steps: in each accepted step, the evictions that name a job are the shortest nonempty prefix of its candidates at its visit, or there is none; a stale event's step decides nothing.
-use mathlib.Core.Path.{_≡_, refl, sym, ap, _∙_}
+use mathlib.Core.Path.{_≡_, refl}
 use mathlib.Core.Bool.{Bool, true, false}
-use mathlib.Core.List.{List, [], _∷_}
-use Prim.Native.Nat.{ℕ, _+_, _<_}
-use lib.ListN.{length}
-use Rattle.laws.specs.Choice.{pick, pick-either}
+use mathlib.Core.List.{List}
+use Prim.Native.Nat.{ℕ, _+_}
+use Rattle.laws.specs.Choice.{pick-either}
 use Rattle.laws.specs.Lists.{All}
 use Rattle.laws.specs.Sort.{only}
-use Rattle.model.specs.Number.{bitsOf}
 use Rattle.model.specs.declared.event.Event.{Event}
 use Rattle.model.specs.declared.event.EventKind.{EventKind}
 use Rattle.model.specs.declared.event.EventKind.the-variants.{Empty, Arrival, Completion, Timeout}
-use Rattle.model.specs.declared.job.Job.{Job}
 use Rattle.model.specs.declared.plan.Plan.{Plan}
-use Rattle.log.specs.Log.{decisions, emptyLog}
+use Rattle.log.specs.Log.{decisions}
 use Rattle.log.specs.declared.Decision.{Decision}
 use Rattle.log.specs.declared.Kind.{Kind}
 use Rattle.log.specs.declared.Kind.the-variants as Kinds
@@ -27,7 +24,7 @@ use Rattle.engine.specs.Advance.{nextEvent, hasEvent, withEvent, byKind, happen
 use Rattle.history.specs.Told.{isEvicted}
 use Rattle.history.specs.Prefixes.{evictsFor, visits, visitor, after, Outcome, Evicts}
 use Rattle.history.specs.PrefixesLaws.{step-prefixes, pass-visit}
-use Rattle.promises.specs.Between.{Between, Amid}
+use Rattle.promises.specs.Between.{Amid}
 use Rattle.promises.specs.Happens.{one-told, empty-told}
 use Rattle.promises.specs.Steps.{happened-amid}
 use Rattle.promises.specs.Conditions.{Reached, first, reached-between}
@@ -49,8 +46,10 @@ kind-quiet : (kind : EventKind) (p : Plan) (e : Event) → Quiet (byKind kind p 
 unfolding completed timedOut arrives completes timesOut
 kind-quiet Empty p e = stale-quiet p
 kind-quiet Arrival p e = said-quiet _ _ Kinds.Arrived (e .job) 0 refl
-kind-quiet Completion p e = pick-either Quiet (ofRun (jobOf p (e .job)) (e .generation)) (completes p (e .job)) (stale p) (said-quiet _ true Kinds.Completed (e .job) _ refl) (stale-quiet p)
-kind-quiet Timeout p e = pick-either Quiet (ofTimeout (jobOf p (e .job)) (e .generation)) (timesOut p (e .job)) (stale p) (said-quiet _ _ Kinds.Failed (e .job) 0 refl) (stale-quiet p)
+kind-quiet Completion p e = pick-either Quiet (ofRun (jobOf p (e .job)) (e .generation)) (completes p (e .job)) (stale p)
+    (said-quiet _ true Kinds.Completed (e .job) _ refl) (stale-quiet p)
+kind-quiet Timeout p e = pick-either Quiet (ofTimeout (jobOf p (e .job)) (e .generation)) (timesOut p (e .job)) (stale p)
+    (said-quiet _ _ Kinds.Failed (e .job) 0 refl) (stale-quiet p)
 
 -- ---- the pass of a step
 
@@ -67,20 +66,26 @@ module _ (trace : List ℕ) (k : ℕ) (p : Plan) (h : List Decision) (r : Reache
   amid = happened-amid (first trace .jobs) k h p (reached-between trace k p h r .0) has
 
   -- Where a pass follows, for each job: nobody left for it in this step, or exactly the shortest nonempty prefix of its candidates at the visit at which it preempted.
-  pub step-evicts : eventDone p .goes ≡ true → (id : ℕ) → Evicts (eventDone p .plan .setting) (eventDone p .plan .clock) (passBegins p) (visits (passBegins p)) id (only (evictsFor id) (decisions (advanced p .log)))
+  pub step-evicts : eventDone p .goes ≡ true → (id : ℕ) →
+      Evicts (eventDone p .plan .setting) (eventDone p .plan .clock) (passBegins p) (visits (passBegins p)) id (only (evictsFor id) (decisions (advanced p .log)))
   unfolding advanced settled startsOf passOf
   step-evicts g id =
       let m : Moment = eventDone p in
       let q : Plan = m .plan in
       rw g
-      (step-prefixes (q .setting) (q .clock) (q .gpus) (q .jobs) (q .queue) (q .waiting) (q .totals) (m .log) (m .ok) (amid .between .gpus) (amid .between .good .size) (amid .between .queue) (amid .table) (amid .own) (kind-quiet (nextEvent p .kind) (withEvent p) (nextEvent p)) (q .setting .options) _ refl id)
+      (step-prefixes (q .setting) (q .clock) (q .gpus) (q .jobs) (q .queue) (q .waiting) (q .totals) (m .log) (m .ok) (amid .between .gpus)
+      (amid .between .good .size) (amid .between .queue) (amid .table) (amid .own) (kind-quiet (nextEvent p .kind) (withEvent p) (nextEvent p))
+      (q .setting .options) _ refl id)
 
   -- Each visit of that pass has one of three outcomes: all stays as it was, since the job does not wait, is a victim of this pass, or no prefix makes it placeable; it is placed as things stand; or the shortest prefix leaves and it is placed.
-  pub step-visit : (i : ℕ) → Outcome (eventDone p .plan .setting) (eventDone p .plan .clock) (after (eventDone p .plan .setting) (eventDone p .plan .clock) (passBegins p) i) (visitor (passBegins p) i) (after (eventDone p .plan .setting) (eventDone p .plan .clock) (passBegins p) (i + 1))
+  pub step-visit : (i : ℕ) → Outcome (eventDone p .plan .setting) (eventDone p .plan .clock)
+      (after (eventDone p .plan .setting) (eventDone p .plan .clock) (passBegins p) i) (visitor (passBegins p) i)
+      (after (eventDone p .plan .setting) (eventDone p .plan .clock) (passBegins p) (i + 1))
   step-visit i =
       let m : Moment = eventDone p in
       let q : Plan = m .plan in
-      pass-visit (q .setting) (q .clock) (q .gpus) (q .jobs) (q .queue) (q .waiting) (q .totals) (m .log) (m .ok) (amid .between .gpus) (amid .between .good .size) (amid .between .queue) (amid .table) (amid .own) i
+      pass-visit (q .setting) (q .clock) (q .gpus) (q .jobs) (q .queue) (q .waiting) (q .totals) (m .log) (m .ok) (amid .between .gpus)
+      (amid .between .good .size) (amid .between .queue) (amid .table) (amid .own) i
 
   -- A stale event decides nothing: nobody leaves, nobody starts.
   pub stale-decides-nothing : eventDone p .goes ≡ false → advanced p ≡ eventDone p

@@ -1,16 +1,15 @@
 -- A step keeps what holds between two steps, whatever event it takes.
-use mathlib.Core.Path.{_≡_, refl, sym, ap, _∙_}
+use mathlib.Core.Path.{_≡_, refl, _∙_}
 use mathlib.Core.Logic.{⊎-elim}
-use mathlib.Core.Bool.{Bool, true, false, _&&_}
-use mathlib.Core.List.{List, [], _∷_, _++_}
+use mathlib.Core.Bool.{true}
+use mathlib.Core.List.{List, _++_}
 use Prim.Native.Nat.{ℕ, _+_, _≤_, _<_}
 use native.Mathlib.Omega.{arith}
 use lib.Dec.{eqb}
-use lib.ListN.{length, getD, length-set}
+use lib.ListN.{length-set}
 use borrow.Author.Tests.{eq-eqb}
-use Rattle.laws.specs.Choice.{pick, pick-cases, pick-either}
+use Rattle.laws.specs.Choice.{pick-cases, pick-either}
 use Rattle.laws.specs.Tests.{and-both, le-or-lt}
-use Rattle.laws.specs.Sums.{bit}
 use Rattle.model.specs.Event.{emptyEvent}
 use Rattle.model.specs.declared.event.Event.{Event}
 use Rattle.model.specs.declared.event.EventKind.{EventKind}
@@ -21,16 +20,15 @@ use Rattle.log.specs.Log.{decisions}
 use Rattle.log.specs.declared.Decision.{Decision}
 use Rattle.cluster.specs.Usage.{runs}
 use Rattle.line.specs.Keep.{waitsIn}
-use Rattle.room.specs.Room.{used, eventAt, least, taken}
+use Rattle.room.specs.Room.{eventAt, least, taken}
 use Rattle.happen.specs.Happen.{jobOf, stale, arrives, completes, timesOut, ofRun, ofTimeout, completed, timedOut, said, joins}
 use Rattle.happen.specs.declared.Moment.{Moment}
 use Rattle.engine.specs.Settle.{settled, withPass}
 use Rattle.engine.specs.Advance.{nextEvent, hasEvent, withEvent, byKind, happened, advanced}
 use Rattle.history.specs.Good.{jobAt}
-use Rattle.history.specs.Entries.{isArrival, arrivalOne, arriving, taken-use, taken-arriving, used-inside}
-use Rattle.history.specs.Queued.{Counted}
+use Rattle.history.specs.Entries.{arrivalOne, arriving, taken-use, taken-arriving, used-inside}
 use Rattle.history.specs.Good.{came}
-use Rattle.promises.specs.Between.{aheadIn, Between, Amid, settled-between}
+use Rattle.promises.specs.Between.{Between, Amid, settled-between}
 use Rattle.apart.specs.Keeps.{waits-only}
 use Rattle.apart.specs.CandidateLaws.{runs-only}
 use Rattle.promises.specs.Happens.{stale-amid, arrives-amid, completes-amid, fails-amid}
@@ -61,7 +59,8 @@ module _ (jobs₀ : List Job) (k : ℕ) (h : List Decision) (p : Plan) (b : Betw
   arrival-taken : nextEvent p .kind ≡ Arrival → arriving (nextEvent p .job) (withEvent p .events) + 1 ≡ arriving (nextEvent p .job) (p .events)
   unfolding withEvent nextEvent
   arrival-taken e =
-      let o : arrivalOne (eventAt (p .events) (least (p .events)) .job) (eventAt (p .events) (least (p .events))) ≡ 1 = rw (e, eq-eqb (eventAt (p .events) (least (p .events)) .job) (eventAt (p .events) (least (p .events)) .job) refl) in
+      let o : arrivalOne (eventAt (p .events) (least (p .events)) .job) (eventAt (p .events) (least (p .events))) ≡ 1 =
+      rw (e, eq-eqb (eventAt (p .events) (least (p .events)) .job) (eventAt (p .events) (least (p .events)) .job) refl) in
       omega (arith, o, taken-arriving (p .events) (b .counted .size) (least (p .events)) (eventAt (p .events) (least (p .events)) .job) inside-room)
 
   -- the jobs are as they were
@@ -74,7 +73,8 @@ module _ (jobs₀ : List Job) (k : ℕ) (h : List Decision) (p : Plan) (b : Betw
   same-setting = refl
 
   -- a job whose arrival is taken is loaded, has no other arrival ahead, and had not arrived
-  pub arrival-facts : nextEvent p .kind ≡ Arrival → (nextEvent p .job < p .setting .jobs) × (arriving (nextEvent p .job) (withEvent p .events) ≡ 0) × (came (jobAt (p .jobs) (nextEvent p .job) .state) ≡ 0)
+  pub arrival-facts : nextEvent p .kind ≡ Arrival →
+      (nextEvent p .job < p .setting .jobs) × (arriving (nextEvent p .job) (withEvent p .events) ≡ 0) × (came (jobAt (p .jobs) (nextEvent p .job) .state) ≡ 0)
   arrival-facts e =
       let id : ℕ = nextEvent p .job in
       let t : arriving id (withEvent p .events) + 1 ≡ arriving id (p .events) = arrival-taken e in
@@ -83,7 +83,8 @@ module _ (jobs₀ : List Job) (k : ℕ) (h : List Decision) (p : Plan) (b : Betw
 
   arrival-amid : nextEvent p .kind ≡ Arrival → Amid jobs₀ (k + 1) h (arrives (withEvent p) (nextEvent p .job))
   arrival-amid e =
-      let f : (nextEvent p .job < p .setting .jobs) × (arriving (nextEvent p .job) (withEvent p .events) ≡ 0) × (came (jobAt (p .jobs) (nextEvent p .job) .state) ≡ 0) = arrival-facts e in
+      let f : (nextEvent p .job < p .setting .jobs) × (arriving (nextEvent p .job) (withEvent p .events) ≡ 0) ×
+      (came (jobAt (p .jobs) (nextEvent p .job) .state) ≡ 0) = arrival-facts e in
       arrives-amid jobs₀ (k + 1) h (withEvent p) (nextEvent p .job) (omega arith) event-taken (rw same-setting (f .0)) (f .1) (rw same-jobs (f .2))
 
   -- by the kind of the event
@@ -97,7 +98,10 @@ module _ (jobs₀ : List Job) (k : ℕ) (h : List Decision) (p : Plan) (b : Betw
       (ofRun (jobOf (withEvent p) (nextEvent p .job)) (nextEvent p .generation))
       (completes (withEvent p) (nextEvent p .job))
       (stale (withEvent p))
-      (λ t. completes-amid jobs₀ (k + 1) h (withEvent p) (nextEvent p .job) event-taken (runs-only (jobAt (withEvent p .jobs) (nextEvent p .job) .state) (and-both (runs (jobAt (withEvent p .jobs) (nextEvent p .job) .state)) (eqb (jobAt (withEvent p .jobs) (nextEvent p .job) .run) (nextEvent p .generation)) t .0)))
+      (λ t. completes-amid jobs₀ (k + 1) h (withEvent p) (nextEvent p .job) event-taken
+      (runs-only (jobAt (withEvent p .jobs) (nextEvent p .job) .state)
+      (and-both (runs (jobAt (withEvent p .jobs) (nextEvent p .job) .state))
+      (eqb (jobAt (withEvent p .jobs) (nextEvent p .job) .run) (nextEvent p .generation)) t .0)))
       (λ f. stale-amid jobs₀ (k + 1) h (withEvent p) event-taken)
   kind-amid Timeout e =
       pick-cases
@@ -105,7 +109,10 @@ module _ (jobs₀ : List Job) (k : ℕ) (h : List Decision) (p : Plan) (b : Betw
       (ofTimeout (jobOf (withEvent p) (nextEvent p .job)) (nextEvent p .generation))
       (timesOut (withEvent p) (nextEvent p .job))
       (stale (withEvent p))
-      (λ t. fails-amid jobs₀ (k + 1) h (withEvent p) (nextEvent p .job) event-taken (waits-only (jobAt (withEvent p .jobs) (nextEvent p .job) .state) (and-both (waitsIn (jobAt (withEvent p .jobs) (nextEvent p .job) .state)) (eqb (jobAt (withEvent p .jobs) (nextEvent p .job) .timeouts) (nextEvent p .generation)) t .0)))
+      (λ t. fails-amid jobs₀ (k + 1) h (withEvent p) (nextEvent p .job) event-taken
+      (waits-only (jobAt (withEvent p .jobs) (nextEvent p .job) .state)
+      (and-both (waitsIn (jobAt (withEvent p .jobs) (nextEvent p .job) .state))
+      (eqb (jobAt (withEvent p .jobs) (nextEvent p .job) .timeouts) (nextEvent p .generation)) t .0)))
       (λ f. stale-amid jobs₀ (k + 1) h (withEvent p) event-taken)
 
   -- the event is done
@@ -117,7 +124,8 @@ module _ (jobs₀ : List Job) (k : ℕ) (h : List Decision) (p : Plan) (b : Betw
   unfolding advanced
   step-between =
       let m : Moment = happened (withEvent p) (nextEvent p) in
-      pick-either (λ (x : Moment). Between jobs₀ (k + 1) (h ++ decisions (x .log)) (x .plan)) (m .goes) (settled m) m (settled-between jobs₀ (k + 1) h (omega arith) m happened-amid) (happened-amid .between)
+      pick-either (λ (x : Moment). Between jobs₀ (k + 1) (h ++ decisions (x .log)) (x .plan)) (m .goes) (settled m) m
+      (settled-between jobs₀ (k + 1) h (omega arith) m happened-amid) (happened-amid .between)
 
 -- ---- what the trace said of the house stays
 
@@ -145,8 +153,10 @@ stays-kind : (kind : EventKind) (p : Plan) (e : Event) → byKind kind p e .plan
 unfolding completed timedOut
 stays-kind Empty p e = stays-stale p
 stays-kind Arrival p e = stays-arrives p (e .job)
-stays-kind Completion p e = pick-either (λ (m : Moment). m .plan .setting ≡ p .setting) (ofRun (jobOf p (e .job)) (e .generation)) (completes p (e .job)) (stale p) (stays-completes p (e .job)) (stays-stale p)
-stays-kind Timeout p e = pick-either (λ (m : Moment). m .plan .setting ≡ p .setting) (ofTimeout (jobOf p (e .job)) (e .generation)) (timesOut p (e .job)) (stale p) (stays-fails p (e .job)) (stays-stale p)
+stays-kind Completion p e = pick-either (λ (m : Moment). m .plan .setting ≡ p .setting) (ofRun (jobOf p (e .job)) (e .generation))
+    (completes p (e .job)) (stale p) (stays-completes p (e .job)) (stays-stale p)
+stays-kind Timeout p e = pick-either (λ (m : Moment). m .plan .setting ≡ p .setting) (ofTimeout (jobOf p (e .job)) (e .generation))
+    (timesOut p (e .job)) (stale p) (stays-fails p (e .job)) (stays-stale p)
 
 stays-event : (p : Plan) → withEvent p .setting ≡ p .setting
 unfolding withEvent

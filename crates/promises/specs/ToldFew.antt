@@ -106,8 +106,12 @@ module _ (jobs₀ : List Job) (k : ℕ) (h : List Decision) (p : Plan) (b : Betw
       (completes (withEvent p) (nextEvent p .job))
       (stale (withEvent p))
       (λ t.
-      let st : jobAt (withEvent p .jobs) (nextEvent p .job) .state ≡ Running = runs-only (jobAt (withEvent p .jobs) (nextEvent p .job) .state) (and-both (runs (jobAt (withEvent p .jobs) (nextEvent p .job) .state)) (eqb (jobAt (withEvent p .jobs) (nextEvent p .job) .run) (nextEvent p .generation)) t .0) in
-      completes-raised (withEvent p) (nextEvent p .job) size-then (in-table (withEvent p .jobs) (nextEvent p .job) size-then (arrived-not (jobAt (withEvent p .jobs) (nextEvent p .job) .state) (ap came st))) st)
+      let st : jobAt (withEvent p .jobs) (nextEvent p .job) .state ≡ Running =
+      runs-only (jobAt (withEvent p .jobs) (nextEvent p .job) .state)
+      (and-both (runs (jobAt (withEvent p .jobs) (nextEvent p .job) .state))
+      (eqb (jobAt (withEvent p .jobs) (nextEvent p .job) .run) (nextEvent p .generation)) t .0) in
+      completes-raised (withEvent p) (nextEvent p .job) size-then
+      (in-table (withEvent p .jobs) (nextEvent p .job) size-then (arrived-not (jobAt (withEvent p .jobs) (nextEvent p .job) .state) (ap came st))) st)
       (λ f. stale-raised (withEvent p))
   kind-raised Timeout e =
       pick-cases
@@ -116,8 +120,12 @@ module _ (jobs₀ : List Job) (k : ℕ) (h : List Decision) (p : Plan) (b : Betw
       (timesOut (withEvent p) (nextEvent p .job))
       (stale (withEvent p))
       (λ t.
-      let st : jobAt (withEvent p .jobs) (nextEvent p .job) .state ≡ Waiting = waits-only (jobAt (withEvent p .jobs) (nextEvent p .job) .state) (and-both (waitsIn (jobAt (withEvent p .jobs) (nextEvent p .job) .state)) (eqb (jobAt (withEvent p .jobs) (nextEvent p .job) .timeouts) (nextEvent p .generation)) t .0) in
-      fails-raised (withEvent p) (nextEvent p .job) size-then (in-table (withEvent p .jobs) (nextEvent p .job) size-then (arrived-not (jobAt (withEvent p .jobs) (nextEvent p .job) .state) (ap came st))) st)
+      let st : jobAt (withEvent p .jobs) (nextEvent p .job) .state ≡ Waiting =
+      waits-only (jobAt (withEvent p .jobs) (nextEvent p .job) .state)
+      (and-both (waitsIn (jobAt (withEvent p .jobs) (nextEvent p .job) .state))
+      (eqb (jobAt (withEvent p .jobs) (nextEvent p .job) .timeouts) (nextEvent p .generation)) t .0) in
+      fails-raised (withEvent p) (nextEvent p .job) size-then
+      (in-table (withEvent p .jobs) (nextEvent p .job) size-then (arrived-not (jobAt (withEvent p .jobs) (nextEvent p .job) .state) (ap came st))) st)
       (λ f. stale-raised (withEvent p))
 
 -- ---- the pass and its starts
@@ -137,13 +145,24 @@ settled-told jobs₀ jobs k h m a e =
     let sized : _ = new-sized (p .queue) (p .waiting) (p .totals) (m .log) (m .ok) (a .between .queue) (a .table) in
     let w : Passed jobs₀ h (m .log .count) p q = passed jobs₀ k h m a in
     let so : Standing q = w .standing in
-    let left : allDecided (q .jobs) ≡ allDecided (p .jobs) + length (victimsOf (q .line)) = pass-keeps (p .setting) (p .clock) (p .gpus) (p .jobs) line (a .between .gpus) (a .between .good .size) sized refl (PassDecided (allDecided (p .jobs))) (pass-decided (p .setting) (p .clock) (allDecided (p .jobs))) (omega arith) in
+    let left : allDecided (q .jobs) ≡ allDecided (p .jobs) + length (victimsOf (q .line)) =
+    pass-keeps (p .setting) (p .clock) (p .gpus) (p .jobs) line (a .between .gpus) (a .between .good .size) sized refl
+    (PassDecided (allDecided (p .jobs))) (pass-decided (p .setting) (p .clock) (allDecided (p .jobs))) (omega arith) in
     let ps : List Placing = take (q .count) (q .placed) in
     let l : length ps ≡ q .count = sym (length-map ps (λ x. x .job)) ∙ so .count in
     let d : Distinct (placedOf q) = distinct-right (victimsOf (q .line)) (placedOf q) (so .once) in
-    let b : Begun = record { jobs = q .jobs; ahead = timeoutsQueued (p .clock) (q .jobs) (record { events = p .events; next = p .next; ok = q .line .ok }) (victimsOf (q .line)); totals = q .line .totals; log = q .line .log } in
-    let began : allDecided (begunAll (p .setting .options) (p .clock) b ps .jobs) ≡ allDecided (q .jobs) + length ps = starts-decided (p .setting .options) (p .clock) b ps (so .jobs) d (few-runs (q .jobs) (placedOf q) (w .good .good .each) (so .placed-are)) in
-    let n : begunAll (p .setting .options) (p .clock) b ps .log .count ≡ q .line .log .count + length ps = all-count (p .setting .options) (p .clock) b ps (omega (arith, l, w .good .told, a .own, few q so)) in
+    let b : Begun = record {
+      jobs = q .jobs;
+      ahead =
+          timeoutsQueued (p .clock) (q .jobs) (record { events = p .events; next = p .next; ok = q .line .ok }) (victimsOf (q .line));
+      totals =
+          q .line .totals;
+      log = q .line .log;
+    } in
+    let began : allDecided (begunAll (p .setting .options) (p .clock) b ps .jobs) ≡ allDecided (q .jobs) + length ps =
+    starts-decided (p .setting .options) (p .clock) b ps (so .jobs) d (few-runs (q .jobs) (placedOf q) (w .good .good .each) (so .placed-are)) in
+    let n : begunAll (p .setting .options) (p .clock) b ps .log .count ≡ q .line .log .count + length ps =
+    all-count (p .setting .options) (p .clock) b ps (omega (arith, l, w .good .told, a .own, few q so)) in
     record {
       raised = omega (arith, began, n, left, e, w .good .told, so .evicted);
       table = all-table (p .setting .options) (p .clock) b ps ∙ so .line .log;
@@ -158,7 +177,8 @@ step-told jobs₀ k h p b has =
     let m : Moment = happened (withEvent p) (nextEvent p) in
     let a : Amid jobs₀ (k + 1) h m = happened-amid jobs₀ k h p b has in
     let r : Raised (p .jobs) m = kind-raised jobs₀ k h p b has (nextEvent p .kind) refl ∙ ap (λ (js : List Job). allDecided js + m .log .count) (event-jobs p) in
-    pick-either (ToldSo (p .jobs)) (m .goes) (settled m) m (settled-told jobs₀ (p .jobs) (k + 1) h m a r) (record { raised = r; table = a .table; fits = omega (arith, a .own) })
+    pick-either (ToldSo (p .jobs)) (m .goes) (settled m) m (settled-told jobs₀ (p .jobs) (k + 1) h m a r)
+    (record { raised = r; table = a .table; fits = omega (arith, a .own) })
 
 -- what a step tells is as many decisions as it answers, since the table cuts none of them
 pub told-length : (jobs : List Job) (m : Moment) → ToldSo jobs m → length (decisions (m .log)) ≡ m .log .count

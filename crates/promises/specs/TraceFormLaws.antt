@@ -38,7 +38,8 @@ pub trace-form : (trace : List ℕ) → Bytes trace → load trace .answer ≡ A
 trace-form trace b e =
     let a : Accepts trace = load-accepts trace e in
     let q : take (a .at + a .used) trace ≡ take (a .at) trace ++ take (a .used) (drop (a .at) trace) = take-add (a .at) (a .used) trace in
-    let w : take (length trace) trace ≡ formsOf (recordsOf trace) ++ (0 ∷ []) = rw (a .ends, reached-forms (a .reached) b, taken-form trace (a .at) R.End (a .used) b (a .reads), form-of-end) at q in
+    let w : take (length trace) trace ≡ formsOf (recordsOf trace) ++ (0 ∷ []) =
+    rw (a .ends, reached-forms (a .reached) b, taken-form trace (a .at) R.End (a .used) b (a .reads), form-of-end) at q in
     sym (take-length trace) ∙ w
 
 -- two accepted traces with the same records are the same bytes

@@ -33,7 +33,9 @@ none-enough Why.TooFew = refl
 
 module _ (s : Setting) (gpus : List Gpu) (j : Job) (owner : ℕ) where
   -- the chosen GPUs given; none are chosen where they are not enough
-  pub chosen-given : (choice : Choice) (rows : List (List ℕ)) → choice ≡ choose gpus (s .gpus) (s .sites) (j .ask) (s .options .best) → gpusOf rows ≡ given owner gpus (listOf (choice .chosen)) → wholeAllocation (record { placed = choice .enough; cut = false; penalised = choice .penalised }) rows ≡ wholeOrNone s gpus j owner
+  pub chosen-given : (choice : Choice) (rows : List (List ℕ)) → choice ≡ choose gpus (s .gpus) (s .sites) (j .ask) (s .options .best) →
+      gpusOf rows ≡ given owner gpus (listOf (choice .chosen)) →
+      wholeAllocation (record { placed = choice .enough; cut = false; penalised = choice .penalised }) rows ≡ wholeOrNone s gpus j owner
   unfolding wholeOrNone wholeAllocated given
   chosen-given choice rows e f =
       rw (f, e)
@@ -43,7 +45,9 @@ module _ (s : Setting) (gpus : List Gpu) (j : Job) (owner : ℕ) where
       (λ h. rw (h, choose-none gpus (s .gpus) (s .sites) (j .ask) (s .options .best) h)))
 
   -- the slices given
-  pub slices-given : (g : Given) (rows : List (List ℕ)) (less most : ℕ) → less ≡ j .ask .profile - 1 → most ≡ getD (s .mosts) less 0 → wholeSlices g rows ≡ slicesAllocated gpus (s .gpus) (j .ask .profile) most (j .ask .slices) owner → wholeAllocation (record { placed = true; cut = g .cut; penalised = false }) rows ≡ slicesGot s gpus j owner
+  pub slices-given : (g : Given) (rows : List (List ℕ)) (less most : ℕ) → less ≡ j .ask .profile - 1 → most ≡ getD (s .mosts) less 0 →
+      wholeSlices g rows ≡ slicesAllocated gpus (s .gpus) (j .ask .profile) most (j .ask .slices) owner →
+      wholeAllocation (record { placed = true; cut = g .cut; penalised = false }) rows ≡ slicesGot s gpus j owner
   unfolding slicesGot
   slices-given g rows less most a b e = rw (← a, ← b, ← e)
 

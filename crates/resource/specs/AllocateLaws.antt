@@ -1,6 +1,6 @@
 -- Placeable and allocation agree, and what is not placeable changes nothing.
 use mathlib.Core.Path.{_≡_, refl, sym, _∙_}
-use mathlib.Core.Bool.{Bool, true, false}
+use mathlib.Core.Bool.{true, false}
 use mathlib.Core.List.{List}
 use Prim.Native.Nat.{ℕ}
 use lib.Dec.{eqb, ltb}
@@ -57,7 +57,8 @@ module _ (s : Setting) (gpus : List Gpu) (jobs : List Job) (j : Job) where
   placeable-enough z h = sym (none-enough (whyNotHere gpus (s .gpus) (s .sites) (j .ask))) ∙ rw z at (placeable-resources h)
 
   -- a placeable MIG job gets its slices: there is no yes that fails
-  pub placeable-slices : (owner : ℕ) → eqb (j .ask .profile) 0 ≡ false → placeable s gpus jobs j ≡ true → slicesAllocated gpus (s .gpus) (j .ask .profile) (mostOf s (j .ask .profile)) (j .ask .slices) owner .placed ≡ true
+  pub placeable-slices : (owner : ℕ) → eqb (j .ask .profile) 0 ≡ false → placeable s gpus jobs j ≡ true →
+      slicesAllocated gpus (s .gpus) (j .ask .profile) (mostOf s (j .ask .profile)) (j .ask .slices) owner .placed ≡ true
   unfolding resourceCause
   placeable-slices owner z h =
       sym (placeable-placed gpus (s .gpus) (j .ask .profile) (mostOf s (j .ask .profile)) (j .ask .slices) owner) ∙

@@ -36,7 +36,8 @@ slicesCause gpus n profile most want =
 unfoldable pub resourceCause : Setting → List Gpu → Job → Cause
 resourceCause s gpus j =
     let ask = j .ask in
-    pick (eqb (ask .profile) 0) (wholeCause (whyNotHere gpus (s .gpus) (s .sites) ask)) (slicesCause gpus (s .gpus) (ask .profile) (mostOf s (ask .profile)) (ask .slices))
+    pick (eqb (ask .profile) 0) (wholeCause (whyNotHere gpus (s .gpus) (s .sites) ask))
+    (slicesCause gpus (s .gpus) (ask .profile) (mostOf s (ask .profile)) (ask .slices))
 
 -- The first cause.
 unfoldable pub firstCause : Setting → List Gpu → List Job → Job → Cause

@@ -36,7 +36,8 @@ module _ (s : Setting) (jobs : List Job) (j : Job) where
   unfolding withinQuota
   quota-no-entry h k = rw (ne-eqb (j .ask .tenant) 0 h, eq-eqb (keptQuota s (j .ask .tenant)) 0 k)
 
-  pub quota-spent : (j .ask .tenant ≡ 0 → ⊥) → (keptQuota s (j .ask .tenant) ≡ 0 → ⊥) → keptQuota s (j .ask .tenant) ≤ usage jobs (s .jobs) (j .ask .tenant) → false ≡ withinQuota s jobs j
+  pub quota-spent : (j .ask .tenant ≡ 0 → ⊥) → (keptQuota s (j .ask .tenant) ≡ 0 → ⊥) →
+      keptQuota s (j .ask .tenant) ≤ usage jobs (s .jobs) (j .ask .tenant) → false ≡ withinQuota s jobs j
   unfolding withinQuota
   quota-spent h k l =
       let kept : ℕ = keptQuota s (j .ask .tenant) in
@@ -44,12 +45,17 @@ module _ (s : Setting) (jobs : List Job) (j : Job) where
       let p : kept - 1 < used + chargeOf j = omega (arith, k) in
       rw (ne-eqb (j .ask .tenant) 0 h, ne-eqb kept 0 k, lt-leb (used + chargeOf j) (kept - 1) p)
 
-  pub quota-left : (j .ask .tenant ≡ 0 → ⊥) → (keptQuota s (j .ask .tenant) ≡ 0 → ⊥) → usage jobs (s .jobs) (j .ask .tenant) < keptQuota s (j .ask .tenant) → ltb (chargeOf j) (keptQuota s (j .ask .tenant) - usage jobs (s .jobs) (j .ask .tenant)) ≡ withinQuota s jobs j
+  pub quota-left : (j .ask .tenant ≡ 0 → ⊥) → (keptQuota s (j .ask .tenant) ≡ 0 → ⊥) →
+      usage jobs (s .jobs) (j .ask .tenant) < keptQuota s (j .ask .tenant) →
+      ltb (chargeOf j) (keptQuota s (j .ask .tenant) - usage jobs (s .jobs) (j .ask .tenant)) ≡ withinQuota s jobs j
   unfolding withinQuota
-  quota-left h k l = rw (ne-eqb (j .ask .tenant) 0 h, ne-eqb (keptQuota s (j .ask .tenant)) 0 k) (below (keptQuota s (j .ask .tenant)) (usage jobs (s .jobs) (j .ask .tenant)) (chargeOf j) l)
+  quota-left h k l = rw (ne-eqb (j .ask .tenant) 0 h, ne-eqb (keptQuota s (j .ask .tenant)) 0 k)
+      (below (keptQuota s (j .ask .tenant)) (usage jobs (s .jobs) (j .ask .tenant)) (chargeOf j) l)
     where
       below : (kept used charge : ℕ) → used < kept → ltb charge (kept - used) ≡ leb (used + charge) (kept - 1)
       below kept used charge g =
           split (ltb charge (kept - used))
-          (λ e. let p : charge < kept - used = ltb-true charge (kept - used) e in let q : used + charge ≤ kept - 1 = omega arith in rw (e, le-leb (used + charge) (kept - 1) q))
-          (λ e. let p : kept - used ≤ charge = ltb-false charge (kept - used) e in let q : kept - 1 < used + charge = omega arith in rw (e, lt-leb (used + charge) (kept - 1) q))
+          (λ e. let p : charge < kept - used = ltb-true charge (kept - used) e in let q : used + charge ≤ kept - 1 =
+          omega arith in rw (e, le-leb (used + charge) (kept - 1) q))
+          (λ e. let p : kept - used ≤ charge = ltb-false charge (kept - used) e in let q : kept - 1 < used + charge =
+          omega arith in rw (e, lt-leb (used + charge) (kept - 1) q))

@@ -34,7 +34,14 @@ kind-back Timeout = refl
 
 -- the event of an entry
 unfoldable pub eventOf : List ℕ → Event
-eventOf entry = record { time = ofBits binary64 (getD entry 0 0); number = getD entry 1 0; kind = kindOf (getD entry 2 0); job = getD entry 3 0 % 65536; generation = getD entry 4 0 % 4294967296 }
+eventOf entry = record {
+  time = ofBits binary64 (getD entry 0 0);
+  number = getD entry 1 0;
+  kind = kindOf (getD entry 2 0);
+  job =
+      getD entry 3 0 % 65536;
+  generation = getD entry 4 0 % 4294967296;
+}
 
 -- the entry of an event
 unfoldable pub entryOf : Event → List ℕ

@@ -23,7 +23,8 @@ use Rattle.rows.specs.Number.{flagOf, flagNumber, flag-back}
 
 -- nobody's and uncut
 abbrev pub newGpu : ℕ → ℕ → Float → ℕ → Bool → Gpu
-newGpu node kind memory group mig = record { node = node; kind = kind; memory = memory; group = group; mig = mig; owner = 0; profile = 0; slices = 0; owners = replicate Sizes.slices 0 }
+newGpu node kind memory group mig = record
+    { node = node; kind = kind; memory = memory; group = group; mig = mig; owner = 0; profile = 0; slices = 0; owners = replicate Sizes.slices 0 }
 
 -- four halves of one number and three of another, the lowest first
 unfoldable pub halves : ℕ → ℕ → List ℕ
@@ -52,7 +53,8 @@ gpuOf card =
 -- the row of a GPU
 unfoldable pub cardOf : Gpu → List ℕ
 cardOf g =
-    g .node ∷ g .kind ∷ bitsOf (g .memory) ∷ g .group ∷ flagNumber (g .mig) ∷ g .owner ∷ g .profile ∷ g .slices ∷ fourOf (getD (g .owners) 0 0) (getD (g .owners) 1 0) (getD (g .owners) 2 0) (getD (g .owners) 3 0) ∷ fourOf (getD (g .owners) 4 0) (getD (g .owners) 5 0) (getD (g .owners) 6 0) 0 ∷ []
+    g .node ∷ g .kind ∷ bitsOf (g .memory) ∷ g .group ∷ flagNumber (g .mig) ∷ g .owner ∷ g .profile ∷ g .slices ∷ fourOf (getD (g .owners) 0 0)
+    (getD (g .owners) 1 0) (getD (g .owners) 2 0) (getD (g .owners) 3 0) ∷ fourOf (getD (g .owners) 4 0) (getD (g .owners) 5 0) (getD (g .owners) 6 0) 0 ∷ []
 
 -- Some of the GPU of a row may be the owner's, unless the GPU is another's or nobody's and no slice has an owner.
 unfoldable pub mayHold : List ℕ → ℕ → Bool
@@ -118,10 +120,24 @@ low-half a r h = omega arith
 above-low : (a r : ℕ) → a < 65536 → (a + 65536 * r) / 65536 ≡ r
 above-low a r h = omega arith
 
-halves-back : (a b c d e f g : ℕ) → a < 65536 → b < 65536 → c < 65536 → d < 65536 → e < 65536 → f < 65536 → g < 65536 → halves (fourOf a b c d) (fourOf e f g 0) ≡ a ∷ b ∷ c ∷ d ∷ e ∷ f ∷ g ∷ []
+halves-back : (a b c d e f g : ℕ) → a < 65536 → b < 65536 → c < 65536 → d < 65536 → e < 65536 → f < 65536 → g < 65536 →
+    halves (fourOf a b c d) (fourOf e f g 0) ≡ a ∷ b ∷ c ∷ d ∷ e ∷ f ∷ g ∷ []
 unfolding halves fourOf
 halves-back a b c d e f g p q r s t u v =
-    rw (low-half a (b + 65536 * (c + 65536 * d)) p, above-low a (b + 65536 * (c + 65536 * d)) p, low-half b (c + 65536 * d) q, above-low b (c + 65536 * d) q, low-half c d r, above-low c d r, mod-eq-of-lt s, low-half e (f + 65536 * (g + 65536 * 0)) t, above-low e (f + 65536 * (g + 65536 * 0)) t, low-half f (g + 65536 * 0) u, above-low f (g + 65536 * 0) u, low-half g 0 v)
+    rw (
+      low-half a (b + 65536 * (c + 65536 * d)) p,
+      above-low a (b + 65536 * (c + 65536 * d)) p,
+      low-half b (c + 65536 * d) q,
+      above-low b (c + 65536 * d) q,
+      low-half c d r,
+      above-low c d r,
+      mod-eq-of-lt s,
+      low-half e (f + 65536 * (g + 65536 * 0)) t,
+      above-low e (f + 65536 * (g + 65536 * 0)) t,
+      low-half f (g + 65536 * 0) u,
+      above-low f (g + 65536 * 0) u,
+      low-half g 0 v,
+    )
 
 -- the seven of a list of seven
 listed : (l : List ℕ) → length l ≡ 7 → getD l 0 0 ∷ getD l 1 0 ∷ getD l 2 0 ∷ getD l 3 0 ∷ getD l 4 0 ∷ getD l 5 0 ∷ getD l 6 0 ∷ [] ≡ l
@@ -135,9 +151,11 @@ listed (a ∷ b ∷ c ∷ d ∷ e ∷ f ∷ []) h = absurd (omega arith)
 listed (a ∷ b ∷ c ∷ d ∷ e ∷ f ∷ g ∷ []) h = refl
 listed (a ∷ b ∷ c ∷ d ∷ e ∷ f ∷ g ∷ x ∷ l) h = absurd (omega arith)
 
-owners-back : (l : List ℕ) → length l ≡ 7 → ((i : ℕ) → Fits w16 (getD l i 0)) → halves (fourOf (getD l 0 0) (getD l 1 0) (getD l 2 0) (getD l 3 0)) (fourOf (getD l 4 0) (getD l 5 0) (getD l 6 0) 0) ≡ l
+owners-back : (l : List ℕ) → length l ≡ 7 → ((i : ℕ) → Fits w16 (getD l i 0)) →
+    halves (fourOf (getD l 0 0) (getD l 1 0) (getD l 2 0) (getD l 3 0)) (fourOf (getD l 4 0) (getD l 5 0) (getD l 6 0) 0) ≡ l
 owners-back l h k =
-    halves-back (getD l 0 0) (getD l 1 0) (getD l 2 0) (getD l 3 0) (getD l 4 0) (getD l 5 0) (getD l 6 0) (k 0 .fits) (k 1 .fits) (k 2 .fits) (k 3 .fits) (k 4 .fits) (k 5 .fits) (k 6 .fits) ∙ listed l h
+    halves-back (getD l 0 0) (getD l 1 0) (getD l 2 0) (getD l 3 0) (getD l 4 0) (getD l 5 0) (getD l 6 0) (k 0 .fits) (k 1 .fits) (k 2 .fits)
+    (k 3 .fits) (k 4 .fits) (k 5 .fits) (k 6 .fits) ∙ listed l h
 
 -- each field is one that its type holds; a flag always is
 abbrev pub GpuFits : Gpu → Type 0
@@ -146,4 +164,14 @@ GpuFits g = Fits w8 (g .node) × Fits w8 (g .kind) × T (fits binary64 (g .memor
 pub gpu-back : (g : Gpu) → GpuFits g → length (g .owners) ≡ 7 → ((i : ℕ) → Fits w16 (getD (g .owners) i 0)) → gpuOf (cardOf g) ≡ g
 unfolding gpuOf cardOf
 gpu-back g (node, kind, memory, group, owner, profile, slices) h k =
-    rw (mod-eq-of-lt (node .fits), mod-eq-of-lt (kind .fits), ofBits-toBits binary64 (g .memory) memory, mod-eq-of-lt (group .fits), flag-back (g .mig), mod-eq-of-lt (owner .fits), mod-eq-of-lt (profile .fits), mod-eq-of-lt (slices .fits), owners-back (g .owners) h k)
+    rw (
+      mod-eq-of-lt (node .fits),
+      mod-eq-of-lt (kind .fits),
+      ofBits-toBits binary64 (g .memory) memory,
+      mod-eq-of-lt (group .fits),
+      flag-back (g .mig),
+      mod-eq-of-lt (owner .fits),
+      mod-eq-of-lt (profile .fits),
+      mod-eq-of-lt (slices .fits),
+      owners-back (g .owners) h k,
+    )

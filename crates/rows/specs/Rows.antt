@@ -3,7 +3,6 @@ use mathlib.Core.Path.{_≡_, refl, sym, ap, _∙_}
 use mathlib.Core.List.{List, [], _∷_, map}
 use Prim.Native.Nat.{ℕ, zero, suc, _+_, _≤_, _<_}
 use native.Mathlib.Numerals.{add-one}
-use native.Mathlib.Omega.{arith}
 use lib.ListN.{length, getD, set, take, replicate, length-map, List·getD-map}
 use lib.Seq.{take-all, take-suc, take-suc-set}
 use Rattle.laws.specs.Tables.{getD-any, past-read, past-put}
@@ -45,7 +44,8 @@ module _ {B : Type 0} (to from : List B) (i : ℕ) where
 
 module _ {A B : Type 0} (f : A → B) (rows : List A) (table : List B) (i : ℕ) where
   -- a table into rows: one more, and all
-  pub write-step : (x : A) (d : B) → i < length rows → i < length table → f x ≡ getD table i d → take i (map f rows) ≡ take i table → take (i + 1) (map f (set rows i x)) ≡ take (i + 1) table
+  pub write-step : (x : A) (d : B) → i < length rows → i < length table → f x ≡ getD table i d → take i (map f rows) ≡ take i table →
+      take (i + 1) (map f (set rows i x)) ≡ take (i + 1) table
   write-step x d h k e w =
       ap (take (i + 1)) (row-written f rows i x (getD table i d) e) ∙ copy-step (map f rows) table i d (rw (length-map rows f) h) k w
 
@@ -53,7 +53,8 @@ module _ {A B : Type 0} (f : A → B) (rows : List A) (table : List B) (i : ℕ)
   write-end h k w = copy-end (map f rows) table i (rw (length-map rows f) h) k w
 
   -- rows into a table: one more, and all
-  pub read-step : (x : A) (y : B) → i < length rows → i < length table → y ≡ f (getD rows i x) → take i table ≡ take i (map f rows) → take (i + 1) (set table i y) ≡ take (i + 1) (map f rows)
+  pub read-step : (x : A) (y : B) → i < length rows → i < length table → y ≡ f (getD rows i x) → take i table ≡ take i (map f rows) →
+      take (i + 1) (set table i y) ≡ take (i + 1) (map f rows)
   read-step x y h k e w =
       ap (λ z. take (i + 1) (set table i z)) (e ∙ row-read f rows i x y h) ∙ copy-step table (map f rows) i y k (rw (length-map rows f) h) w
 

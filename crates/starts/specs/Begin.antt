@@ -43,7 +43,8 @@ abbrev pub alsoNext : Next → Bool → Next
 alsoNext a good = record { next = a .next; ok = a .ok && good }
 
 -- and of the whole, put together
-pub also-whole : (a : Next) (events : List Event) (good : Bool) (b : Ahead) → record { events = events; next = a .next; ok = a .ok } ≡ b → record { events = events; next = a .next; ok = a .ok && good } ≡ also b good
+pub also-whole : (a : Next) (events : List Event) (good : Bool) (b : Ahead) → record { events = events; next = a .next; ok = a .ok } ≡ b →
+    record { events = events; next = a .next; ok = a .ok && good } ≡ also b good
 also-whole a events good b e = ap (λ (x : Ahead). also x good) e
 
 -- what starts change, with the tables that were lent
@@ -60,7 +61,8 @@ begun options clock b p =
     let totals = Noted.started (b .totals) (p .cut) (p .penalised) (j .remaining) multiplier in
     record {
       jobs = set (b .jobs) (p .job) s;
-      ahead = also (queued (b .ahead) (Life.completionAt j at multiplier) Completion (p .job) (s .run)) ((permitted at && permitted (s .waited)) && permitted (totals .added));
+      ahead = also (queued (b .ahead) (Life.completionAt j at multiplier) Completion (p .job) (s .run))
+          ((permitted at && permitted (s .waited)) && permitted (totals .added));
       totals = totals;
       log = told (b .log) (bitsOf at) Started (p .job) (amount (j .ask));
     }

@@ -38,7 +38,8 @@ module _ {S A : Type 0} (f : S → A → S) where
   folded-start s t n m size e l = rw (e, take-lesser t n size l)
 
   -- a turn takes the first of those left
-  pub folded-turn : (s : S) (t : List A) (m i : ℕ) (x d : A) → i < m → m ≤ length t → x ≡ getD t i d → folded (f s x) (drop (i + 1) (take m t)) ≡ folded s (drop i (take m t))
+  pub folded-turn : (s : S) (t : List A) (m i : ℕ) (x d : A) → i < m → m ≤ length t → x ≡ getD t i d →
+      folded (f s x) (drop (i + 1) (take m t)) ≡ folded s (drop i (take m t))
   unfolding folded
   folded-turn s t m i x d h k e = rw (left-turn t m i x d h k e)
 

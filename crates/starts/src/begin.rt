@@ -102,7 +102,8 @@ fn begin(
     clock: f64,
     p: Placing,
 ) -> Beginning
-    ensures { λ r. ⌜ wholeBegun r (now (jobs .exit)) (now (room .exit)) ≡ begun options clock (wholeBegun b (now (jobs .entry)) (now (room .entry))) p ⌝ }
+    ensures { λ r. ⌜ wholeBegun r (now (jobs .exit)) (now (room .exit))
+        ≡ begun options clock (wholeBegun b (now (jobs .entry)) (now (room .entry))) p ⌝ }
 {
     let ahead = b.ahead;
     let totals = b.totals;
@@ -134,7 +135,8 @@ pub fn begin_all(
     placed: [Placing; JOBS],
     count: usize,
 ) -> Beginning
-    ensures { λ r. ⌜ wholeBegun r (now (jobs .exit)) (now (room .exit)) ≡ begunAll options clock (wholeBegun b (now (jobs .entry)) (now (room .entry))) (take count placed) ⌝ }
+    ensures { λ r. ⌜ wholeBegun r (now (jobs .exit)) (now (room .exit))
+        ≡ begunAll options clock (wholeBegun b (now (jobs .entry)) (now (room .entry))) (take count placed) ⌝ }
 {
     let n = lesser(count, JOBS);
     let mut work = b;

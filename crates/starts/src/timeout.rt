@@ -45,7 +45,8 @@ pub fn queue_timeouts(
     victims: [u16; JOBS],
     count: usize,
 ) -> Next
-    ensures { λ r. ⌜ wholeAhead r (now (room .exit)) ≡ timeoutsQueued clock (jobsOf (now (jobs .entry))) (wholeAhead a (now (room .entry))) (take count victims) ⌝ }
+    ensures { λ r. ⌜ wholeAhead r (now (room .exit))
+        ≡ timeoutsQueued clock (jobsOf (now (jobs .entry))) (wholeAhead a (now (room .entry))) (take count victims) ⌝ }
 {
     let n = lesser(count, JOBS);
     let mut ahead = a;

@@ -1,5 +1,5 @@
 -- A place in lent bytes counts the bytes before it, also after a byte is written.
-use mathlib.Core.Path.{_≡_, sym, refl}
+use mathlib.Core.Path.{_≡_, sym}
 use mathlib.Core.List.{List}
 use Prim.Native.Nat.{ℕ, _≤_, _<_, _+_, min}
 use native.Mathlib.Nat.{min-eq-left, min-eq-right}

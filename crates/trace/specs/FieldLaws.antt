@@ -2,7 +2,7 @@
 use mathlib.Core.List.{List}
 use mathlib.Core.Path.{_≡_, refl, sym, subst}
 use mathlib.Core.Bool.{Bool, true, false}
-use Prim.Native.Nat.{ℕ, _+_, _≤_, _<_}
+use Prim.Native.Nat.{ℕ, _+_, _≤_}
 use native.Mathlib.Omega.{arith}
 use lib.Dec.{ltb, eqb}
 use lib.ListN.{length, drop}
@@ -45,7 +45,8 @@ pub bound : (f : Field) (most : ℕ) (r : Plain) → f .value ≤ most → field
 bound f most r h e = (e, subst (AtMost most) (sym e) h)
 
 -- of the four refusals of a field none is accepted
-first-test : (zero one two three : Bool) (at : ℕ) → accepted (pick zero Accepted (pick one (EndsEarly at) (pick two (BadNumber at) (pick three (UnknownKind at) (OutOfRange at))))) ≡ zero
+first-test : (zero one two three : Bool) (at : ℕ) →
+    accepted (pick zero Accepted (pick one (EndsEarly at) (pick two (BadNumber at) (pick three (UnknownKind at) (OutOfRange at))))) ≡ zero
 first-test true one two three at = refl
 first-test false true two three at = refl
 first-test false false true three at = refl
@@ -61,6 +62,7 @@ pub next-got : (s : List ℕ) (before : Plain) (least most : ℕ) → before .re
 unfolding next
 next-got s before least most e = rw e
 
-pub next-lost : (s : List ℕ) (before : Plain) (least most : ℕ) → (before .refusal ≡ 0 → ⊥) → fieldOf (plainLost (before .refusal) (before .end)) ≡ next s (fieldOf before) least most
+pub next-lost : (s : List ℕ) (before : Plain) (least most : ℕ) → (before .refusal ≡ 0 → ⊥) →
+    fieldOf (plainLost (before .refusal) (before .end)) ≡ next s (fieldOf before) least most
 unfolding next
 next-lost s before least most h = rw (accepted-of (before .refusal) (before .end), ne-eqb (before .refusal) 0 h)

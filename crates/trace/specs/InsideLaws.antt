@@ -1,6 +1,6 @@
 -- What is read lies inside the bytes that it is read from: the place of a refusal, and the end of a field and of a record.
 use mathlib.Core.Path.{_≡_}
-use mathlib.Core.Bool.{Bool, true, false}
+use mathlib.Core.Bool.{true, false}
 use mathlib.Core.Logic.{⊎-elim}
 use mathlib.Core.List.{List, [], _∷_}
 use Prim.Native.Nat.{ℕ, _+_, _≤_, _<_}
@@ -15,13 +15,11 @@ use Rattle.trace.specs.Number.{number, taken}
 use Rattle.trace.specs.NumberLaws.{number-none, number-inside}
 use Rattle.trace.specs.Answer.{accepted, placeOf}
 use Rattle.trace.specs.Field.{field, next, got, lost, ranged}
-use Rattle.trace.specs.Record.{leastSlices, mostSlices, upTo, nodeRead, gpuRead, quotaRead, profileRead, jobRead, optionsRead, kindField, fieldsRead, recordRead}
-use Rattle.trace.specs.declared.answer.Answer.{Answer}
-use Rattle.trace.specs.declared.answer.Answer.the-variants.{Accepted, EndsEarly, BadNumber, OutOfRange, UnknownKind}
+use Rattle.trace.specs.Record.{leastSlices, mostSlices, nodeRead, gpuRead, quotaRead, profileRead, jobRead, optionsRead, kindField, fieldsRead, recordRead}
+use Rattle.trace.specs.declared.answer.Answer.the-variants.{Accepted, OutOfRange, UnknownKind}
 use Rattle.trace.specs.declared.number.Number.{Number}
 use Rattle.trace.specs.declared.number.Number.the-variants.{Value, Ends, Padded, Oversized}
 use Rattle.trace.specs.declared.field.Field.{Field}
-use Rattle.trace.specs.declared.record.Record.{Record}
 use Rattle.trace.specs.declared.record.Record.the-variants.{End}
 use Rattle.trace.specs.declared.record.Read.{Read}
 

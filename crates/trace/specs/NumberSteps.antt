@@ -1,14 +1,14 @@
 -- The number, a byte at a time: what each byte decides, and what is carried past a group.
 use mathlib.Core.Path.{_≡_, refl}
-use mathlib.Core.List.{List, [], _∷_}
-use Prim.Native.Nat.{ℕ, zero, suc, _+_, _-_, _*_, _^_, _≤_, _<_}
-use native.Mathlib.Nat.{mul-add, mul-assoc, mul-le-mul-left, pow-suc, pow-le-pow-right, mul-comm}
+use mathlib.Core.List.{List}
+use Prim.Native.Nat.{ℕ, suc, _+_, _-_, _*_, _^_, _≤_, _<_}
+use native.Mathlib.Nat.{mul-add, mul-assoc, mul-le-mul-left, pow-suc, pow-le-pow-right}
 use native.Mathlib.Numerals.{add-one}
 use native.Mathlib.Omega.{arith}
 use lib.Dec.{ltb, eqb}
 use lib.ListN.{length, getD, drop, drop-of-length-le}
 use lib.Seq.{drop-cons}
-use borrow.Author.Tests.{lt-ltb, le-ltb, eq-eqb, ne-eqb}
+use borrow.Author.Tests.{lt-ltb, le-ltb, ne-eqb}
 use Rattle.laws.specs.Choice.{pick}
 use Rattle.trace.specs.declared.number.Number.{Number}
 use Rattle.trace.specs.declared.number.Number.the-variants.{Value, Ends, Padded, Oversized}
@@ -28,7 +28,8 @@ module _ (s : List ℕ) (i least : ℕ) (early : i < 9) where
   unfolding groups
   groups-past h = let e : 9 - i ≡ suc (9 - (i + 1)) = omega arith in rw (e, drop-of-length-le s h)
 
-  groups-at : i < length s → groups (9 - i) least (drop i s) ≡ pick (ltb (getD s i 0) least) Padded (pick (ltb (getD s i 0) 128) (Value (getD s i 0) 1) (above (getD s i 0 - 128) (groups (9 - (i + 1)) 1 (drop (i + 1) s))))
+  groups-at : i < length s → groups (9 - i) least (drop i s) ≡ pick (ltb (getD s i 0) least) Padded
+      (pick (ltb (getD s i 0) 128) (Value (getD s i 0) 1) (above (getD s i 0 - 128) (groups (9 - (i + 1)) 1 (drop (i + 1) s))))
   unfolding groups
   groups-at h = let e : 9 - i ≡ suc (9 - (i + 1)) = omega arith in rw (e, drop-cons s i 0 h, ← add-one i)
 
@@ -41,7 +42,8 @@ module _ (s : List ℕ) (i least : ℕ) (early : i < 9) where
   pub at-last : i < length s → least ≤ getD s i 0 → getD s i 0 < 128 → groups (9 - i) least (drop i s) ≡ Value (getD s i 0) 1
   at-last h k l = rw (groups-at h, le-ltb (getD s i 0) least k, lt-ltb (getD s i 0) 128 l)
 
-  pub at-group : i < length s → least ≤ getD s i 0 → 128 ≤ getD s i 0 → groups (9 - i) least (drop i s) ≡ above (getD s i 0 - 128) (groups (9 - (i + 1)) 1 (drop (i + 1) s))
+  pub at-group : i < length s → least ≤ getD s i 0 → 128 ≤ getD s i 0 →
+      groups (9 - i) least (drop i s) ≡ above (getD s i 0 - 128) (groups (9 - (i + 1)) 1 (drop (i + 1) s))
   at-group h k l = rw (groups-at h, le-ltb (getD s i 0) least k, le-ltb (getD s i 0) 128 l)
 
 -- before the first byte nothing is carried

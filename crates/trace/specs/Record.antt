@@ -8,7 +8,6 @@ use Rattle.model.specs.Sizes.{permittedBits}
 use Rattle.trace.specs.Ranges as Ranges
 use Rattle.trace.specs.Answer.{accepted}
 use Rattle.trace.specs.Field.{field, next, lost}
-use Rattle.trace.specs.declared.answer.Answer.{Answer}
 use Rattle.trace.specs.declared.answer.Answer.the-variants.{Accepted, UnknownKind}
 use Rattle.trace.specs.declared.field.Field.{Field}
 use Rattle.trace.specs.declared.record.Record.{Record}
@@ -81,7 +80,24 @@ jobRead s =
     let timeout = next s network 0 permittedBits in
     let profile = next s timeout 0 Ranges.profilesAsked in
     let slices = next s profile (leastSlices (profile .value)) (mostSlices (profile .value)) in
-    upTo slices (Job (record { arrival = floatOf arrival; duration = floatOf duration; priority = priorityOf (priority .value); count = count .value; memory = floatOf memory; kind = kind .value; site = site .value; tenant = tenant .value; gang = eqb (gang .value) 1; nodes = nodes .value; network = eqb (network .value) 1; timeout = floatOf timeout; profile = profile .value; slices = slices .value }))
+    upTo slices (Job (record {
+      arrival = floatOf arrival;
+      duration = floatOf duration;
+      priority = priorityOf (priority .value);
+      count =
+          count .value;
+      memory = floatOf memory;
+      kind = kind .value;
+      site = site .value;
+      tenant = tenant .value;
+      gang = eqb (gang .value) 1;
+      nodes =
+          nodes .value;
+      network = eqb (network .value) 1;
+      timeout = floatOf timeout;
+      profile = profile .value;
+      slices = slices .value;
+    }))
 
 -- 6 options: reconfiguration seconds, restart penalty, penalty multiplier (1.0 to 1024.0), best fit 0/1, quota-aware 0/1.
 unfoldable pub optionsRead : List ℕ → Read
@@ -91,7 +107,14 @@ optionsRead s =
     let multiplier = next s penalty Ranges.leastMultiplier Ranges.multipliers in
     let best = next s multiplier 0 Ranges.flag in
     let aware = next s best 0 Ranges.flag in
-    upTo aware (Options (record { seconds = floatOf seconds; penalty = floatOf penalty; multiplier = floatOf multiplier; best = eqb (best .value) 1; aware = eqb (aware .value) 1 }))
+    upTo aware (Options (record {
+      seconds = floatOf seconds;
+      penalty = floatOf penalty;
+      multiplier = floatOf multiplier;
+      best =
+          eqb (best .value) 1;
+      aware = eqb (aware .value) 1;
+    }))
 
 -- The record's kind is a number like any other, refused as a kind where it is over 6.
 unfoldable pub kindField : List ℕ → Field

@@ -18,7 +18,11 @@ same-length : tie.Need-same-length
 same-length c = search needs
 
 returns-2 : tie.Need-returns-2
-returns-2 c = done-ran (c .before .before .before .before .before .before .before .before .before .before .before .args .trace .now) (c .before .before .before .before .before .before .before .before .before .before .before .args .words .now) (omega arith) (c .before .before .before .before .before .before .load-and-run .result) _ _ (c .before .before .before .before .before .before .load-and-run .ensures .0) (c .before .before .before .before .before .before .load-and-run .ensures .1) (c .before .before .put-head .ensures)
+returns-2 c =
+    let load-and-run = c .before .before .before .before .before .before .load-and-run in
+    let start = c .before .before .before .before .before .before .before .before .before .before .before .args in
+    done-ran (start .trace .now) (start .words .now) (omega arith) (load-and-run .result) _ _ (load-and-run .ensures .0) (load-and-run .ensures .1)
+    (c .before .before .put-head .ensures)
 
 pub planner-run-spec : {M : Type 1} → statement M
 planner-run-spec =

@@ -31,8 +31,21 @@ say-requires c κs = search needs
 returns : tie.Need-returns
 unfolding joins arrives
 returns c =
-    let q = rw (c .before .before .before .before .before .before .before .before .wait .ensures, c .before .before .before .before .before .before .before .before .before .read-job .ensures, c .before .before .before .before .before .before .before .before .before .before .wide-id .ensures) at (c .before .before .before .before .before .queue-timeout .ensures) in
-    λ gpus. rw (c .say .ensures, c .before .join-queue .ensures, c .before .before .write-job .ensures, c .before .before .before .wide-id2 .ensures, c .before .before .before .before .before .before .before .before .wait .ensures, c .before .before .before .before .before .before .before .before .before .read-job .ensures, c .before .before .before .before .before .before .before .before .before .before .wide-id .ensures, ← q)
+    let queue-timeout = c .before .before .before .before .before .queue-timeout in
+    let wait = c .before .before .before .before .before .before .before .before .wait in
+    let read-job = c .before .before .before .before .before .before .before .before .before .read-job in
+    let wide-id = c .before .before .before .before .before .before .before .before .before .before .wide-id in
+    let q = rw (wait .ensures, read-job .ensures, wide-id .ensures) at (queue-timeout .ensures) in
+    λ gpus. rw (
+      c .say .ensures,
+      c .before .join-queue .ensures,
+      c .before .before .write-job .ensures,
+      c .before .before .before .wide-id2 .ensures,
+      wait .ensures,
+      read-job .ensures,
+      wide-id .ensures,
+      ← q,
+    )
 
 pub arrive-spec : {M : Type 1} → statement M
 arrive-spec =

@@ -33,7 +33,23 @@ say-requires c κs = search needs
 
 returns : tie.Need-returns
 unfolding completes
-returns c = λ room. rw (c .say .ensures, c .before .amount .ensures, c .before .before .free-all .ensures, c .before .before .before .plus-one .ensures, c .before .before .before .before .before .write-job .ensures, c .before .before .before .before .before .before .end .ensures, c .before .before .before .before .before .before .before .wide-id2 .ensures, c .before .before .before .before .before .before .before .before .before .before .read-job .ensures, c .before .before .before .before .before .before .before .before .before .before .before .wide-id .ensures)
+returns c =
+    let write-job = c .before .before .before .before .before .write-job in
+    let end = c .before .before .before .before .before .before .end in
+    let wide-id2 = c .before .before .before .before .before .before .before .wide-id2 in
+    let read-job = c .before .before .before .before .before .before .before .before .before .before .read-job in
+    let wide-id = c .before .before .before .before .before .before .before .before .before .before .before .wide-id in
+    λ room. rw (
+      c .say .ensures,
+      c .before .amount .ensures,
+      c .before .before .free-all .ensures,
+      c .before .before .before .plus-one .ensures,
+      write-job .ensures,
+      end .ensures,
+      wide-id2 .ensures,
+      read-job .ensures,
+      wide-id .ensures,
+    )
 
 pub complete-spec : {M : Type 1} → statement M
 complete-spec =

@@ -10,7 +10,7 @@ both-requires : tie.Need-both-requires
 both-requires c κs = search needs
 
 returns : tie.Need-returns
-returns c = cc
+returns c = rw (c .both .ensures, c .before .before .is-running .ensures)
 
 pub is-of-run-spec : {M : Type 1} → statement M
 is-of-run-spec = tie.close (tie.spec is-running-requires both-requires returns)

@@ -10,7 +10,7 @@ both-requires : tie.Need-both-requires
 both-requires c κs = search needs
 
 returns : tie.Need-returns
-returns c = cc
+returns c = rw (c .both .ensures, c .before .before .is-waiting .ensures)
 
 pub is-of-timeout-spec : {M : Type 1} → statement M
 is-of-timeout-spec = tie.close (tie.spec is-waiting-requires both-requires returns)

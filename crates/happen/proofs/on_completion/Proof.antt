@@ -19,7 +19,10 @@ complete-requires c κs = search needs
 returns : tie.Need-returns
 unfolding completed
 returns c =
-    let t = rw (c .before .before .before .before .is-of-run .ensures, c .before .before .before .before .before .read-job .ensures, c .before .before .before .before .before .before .wide-id .ensures) at (c .before .before .before .if1 .taken) in
+    let is-of-run = c .before .before .before .before .is-of-run in
+    let read-job = c .before .before .before .before .before .read-job in
+    let wide-id = c .before .before .before .before .before .before .wide-id in
+    let t = rw (is-of-run .ensures, read-job .ensures, wide-id .ensures) at (c .before .before .before .if1 .taken) in
     λ room. rw t (c .complete .ensures room)
 
 nothing-requires : tie.Need-nothing-requires
@@ -28,8 +31,10 @@ nothing-requires c κs = search needs
 returns-2 : tie.Need-returns-2
 unfolding completed
 returns-2 c =
-    let t = rw (c .before .before .is-of-run .ensures, c .before .before .before .read-job .ensures, c .before .before .before .before .wide-id .ensures) at (c .before .if1 .left) in
-    λ room. rw t (c .nothing .ensures (c .before .before .before .before .before .before .args .gpus .now) (c .before .before .before .before .before .before .args .jobs .now) room)
+    let wide-id = c .before .before .before .before .wide-id in
+    let start = c .before .before .before .before .before .before .args in
+    let t = rw (c .before .before .is-of-run .ensures, c .before .before .before .read-job .ensures, wide-id .ensures) at (c .before .if1 .left) in
+    λ room. rw t (c .nothing .ensures (start .gpus .now) (start .jobs .now) room)
 
 pub on-completion-spec : {M : Type 1} → statement M
 on-completion-spec =

@@ -19,7 +19,9 @@ time-out-requires c κs = search needs
 returns : tie.Need-returns
 unfolding timedOut
 returns c =
-    let t = rw (c .before .before .before .is-of-timeout .ensures, c .before .before .before .before .read-job .ensures, c .before .before .before .before .before .wide-id .ensures) at (c .before .before .if1 .taken) in
+    let read-job = c .before .before .before .before .read-job in
+    let wide-id = c .before .before .before .before .before .wide-id in
+    let t = rw (c .before .before .before .is-of-timeout .ensures, read-job .ensures, wide-id .ensures) at (c .before .before .if1 .taken) in
     λ gpus room. rw t (c .time-out .ensures gpus room)
 
 nothing-requires : tie.Need-nothing-requires
@@ -28,8 +30,10 @@ nothing-requires c κs = search needs
 returns-2 : tie.Need-returns-2
 unfolding timedOut
 returns-2 c =
-    let t = rw (c .before .before .is-of-timeout .ensures, c .before .before .before .read-job .ensures, c .before .before .before .before .wide-id .ensures) at (c .before .if1 .left) in
-    λ gpus room. rw t (c .nothing .ensures gpus (c .before .before .before .before .before .before .args .jobs .now) room)
+    let wide-id = c .before .before .before .before .wide-id in
+    let start = c .before .before .before .before .before .before .args in
+    let t = rw (c .before .before .is-of-timeout .ensures, c .before .before .before .read-job .ensures, wide-id .ensures) at (c .before .if1 .left) in
+    λ gpus room. rw t (c .nothing .ensures gpus (start .jobs .now) room)
 
 pub on-timeout-spec : {M : Type 1} → statement M
 on-timeout-spec =

@@ -30,7 +30,22 @@ say-requires c κs = search needs
 
 returns : tie.Need-returns
 unfolding timesOut
-returns c = λ gpus room. rw (c .say .ensures, c .before .is-permitted .ensures, c .before .before .before .keep-waiting .ensures, c .before .before .before .before .before .write-job .ensures, c .before .before .before .before .before .before .wide-id2 .ensures, c .before .before .before .before .before .before .before .before .fail .ensures, c .before .before .before .before .before .before .before .before .before .read-job .ensures, c .before .before .before .before .before .before .before .before .before .before .wide-id .ensures)
+returns c =
+    let write-job = c .before .before .before .before .before .write-job in
+    let wide-id2 = c .before .before .before .before .before .before .wide-id2 in
+    let fail = c .before .before .before .before .before .before .before .before .fail in
+    let read-job = c .before .before .before .before .before .before .before .before .before .read-job in
+    let wide-id = c .before .before .before .before .before .before .before .before .before .before .wide-id in
+    λ gpus room. rw (
+      c .say .ensures,
+      c .before .is-permitted .ensures,
+      c .before .before .before .keep-waiting .ensures,
+      write-job .ensures,
+      wide-id2 .ensures,
+      fail .ensures,
+      read-job .ensures,
+      wide-id .ensures,
+    )
 
 pub time-out-spec : {M : Type 1} → statement M
 time-out-spec =

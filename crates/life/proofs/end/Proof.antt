@@ -1,5 +1,4 @@
 -- `life::end` meets its contract.
-use borrow.Author.Needs.{needs}
 use mathlib.Core.Path.{refl}
 use Rattle.life.specs.Life.{ends}
 use Rattle.life.proofs.end.Statement.{statement}

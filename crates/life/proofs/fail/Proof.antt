@@ -1,5 +1,4 @@
 -- `life::fail` meets its contract.
-use borrow.Author.Needs.{needs}
 use mathlib.Core.Path.{refl}
 use Rattle.life.specs.Life.{fails}
 use Rattle.life.proofs.fail.Statement.{statement}

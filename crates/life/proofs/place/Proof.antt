@@ -1,5 +1,4 @@
 -- `life::place` meets its contract.
-use borrow.Author.Needs.{needs}
 use mathlib.Core.Path.{refl}
 use Rattle.life.specs.Life.{placed}
 use Rattle.life.proofs.place.Statement.{statement}

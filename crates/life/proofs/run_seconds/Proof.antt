@@ -1,5 +1,4 @@
 -- `life::run_seconds` meets its contract.
-use borrow.Author.Needs.{needs}
 use Rattle.life.proofs.run_seconds.Statement.{statement}
 use Rattle.life.proofs.run_seconds.Tie as tie
 

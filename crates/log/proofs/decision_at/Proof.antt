@@ -3,7 +3,7 @@ use borrow.Author.Needs.{needs}
 use Rattle.log.specs.Log.{noDecision}
 use Rattle.laws.specs.Tables.{getD-any, past-read}
 use native.Mathlib.Omega.{arith}
-use mathlib.Core.Path.{_≡_, _∙_}
+use mathlib.Core.Path.{_∙_}
 use Rattle.log.proofs.decision_at.Statement.{statement}
 use Rattle.log.proofs.decision_at.Tie as tie
 

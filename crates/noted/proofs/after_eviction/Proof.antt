@@ -57,7 +57,8 @@ module _ {M : Type 1} (𝓤 : URA M) (H : Heap 𝓤) (A : Atoms 𝓤) (at-mem : 
   abbrev G : Contract 𝓤
   G = tripleOf 𝓤 H A g.signature (g.spec 𝓤 H A at-mem run)
 
-module _ {M : Type 1} (𝓤 : URA M) (H : Heap 𝓤) (A : Atoms 𝓤) (W : Given 𝓤 H A) (at-mem : Memory → SProp 𝓤) (run : Routine → Fun 𝓤) (h : Totals) (n : ℕ) (ih : Is row h (mach h ∷ [])) (fits : n < 2 ^ 64) where
+module _ {M : Type 1} (𝓤 : URA M) (H : Heap 𝓤) (A : Atoms 𝓤) (W : Given 𝓤 H A) (at-mem : Memory → SProp 𝓤) (run : Routine → Fun 𝓤) (h : Totals)
+    (n : ℕ) (ih : Is row h (mach h ∷ [])) (fits : n < 2 ^ 64) where
   abbrev x : Totals × (ℕ × Unit {0})
   x = (h, (n, tt))
 
@@ -80,29 +81,38 @@ module _ {M : Type 1} (𝓤 : URA M) (H : Heap 𝓤) (A : Atoms 𝓤) (W : Given
   abbrev to-g : ℕ → ℕ → GName → G 𝓤 H A at-mem run .Ghost
   to-g α l δ = (((α ∷ [], tt), (fullShare, tt), tt, (lent l δ, (n, tt)), (vptr l 0 ∷ [], (vint w64 n ∷ [], tt))), tt)
 
-  goes-g : (α l : ℕ) (δ : GName) → ent 𝓤 (sep 𝓤 (A .lft (α ∷ []) fullShare) (sem 𝓤 H A (MutRef (named 0) (α ∷ []) row .own (lent l δ) (vptr l 0 ∷ [])))) (G 𝓤 H A at-mem run .pre (to-g α l δ))
+  goes-g : (α l : ℕ) (δ : GName) → ent 𝓤 (sep 𝓤 (A .lft (α ∷ []) fullShare)
+      (sem 𝓤 H A (MutRef (named 0) (α ∷ []) row .own (lent l δ) (vptr l 0 ∷ [])))) (G 𝓤 H A at-mem run .pre (to-g α l δ))
   goes-g α l δ =
       qed W (‵ (flft (α ∷ []) fullShare) ∷ ‵ (MutRef (named 0) (α ∷ []) row .own (lent l δ) (vptr l 0 ∷ [])) ∷ []) ∵ nothing ! $ move ! (1 ∷ 0 ∷ []) $ join ! $
-      nothing ! $ owned ! u64 (Is u64) (uint-makes 𝓤 H A W w64) n _ (refl, fits) $ fjoin ! $ move ! (2 ∷ 0 ∷ []) $ fjoin ! $ move ! (1 ∷ 0 ∷ []) $ join ! $ frame ! $ done !
+      nothing ! $ owned ! u64 (Is u64) (uint-makes 𝓤 H A W w64) n _ (refl, fits) $ fjoin ! $ move ! (2 ∷ 0 ∷ []) $ fjoin ! $ move ! (1 ∷ 0 ∷ []) $
+      join ! $ frame ! $ done !
 
   module _ (C : Calls 𝓤 H) (Λ : Loops 𝓤 H) (fm : FmC 𝓤 H (W .laws) C) (known : Triple 𝓤 (C #g) (G 𝓤 H A at-mem run)) where
     walk : ent 𝓤 (onEntry 𝓤 H A f.signature tt tt x at) (WpFn 𝓤 H C Λ code.function (mach h ∷ vint w64 n ∷ []) Post)
     walk =
         qed W (‵ ftrue ∷ ‵ (owns (row ∷ u64 ∷ []) x at) ∷ []) ∵ enter ! C Λ code.function (mach h ∷ vint w64 n ∷ []) _ $
-        alloc1 ! (λ l₀. alloc1 ! (λ l₁. alloc1 ! (λ l₂. alloc1 ! (λ l₃. alloc1 ! (λ l₄. alloc1 ! (λ l₅. alloc0 ! $ params1 ! $ pass1 ! (init ! 8 refl (typed 𝓤 H A W h _ ih)) $ pass1 ! (init ! 6 refl (tt, record { fits = fits })) $ pass0 ! $
+        alloc1 ! (λ l₀. alloc1 ! (λ l₁. alloc1 !
+        (λ l₂. alloc1 ! (λ l₃. alloc1 ! (λ l₄. alloc1 !
+        (λ l₅. alloc0 ! $ params1 ! $ pass1 ! (init ! 8 refl (typed 𝓤 H A W h _ ih)) $ pass1 ! (init ! 6 refl (tt, record { fits = fits })) $ pass0 ! $
         -- [_5; …; _4; …; _3; …; _2; …; _1; …; room for _0; …; true; owns]
         assigns ! (of-opd ! (load ! (from ! (stop !)) (look ! 8 refl))) (from ! (stop !)) (init ! 4 refl (typed 𝓤 H A W h _ ih)) $
         assigns ! (addr ! (from ! (stop !))) (from ! (stop !)) (init ! 0 refl (tt, tt)) $
         -- the local is lent for a lifetime α of the call
         move ! (4 ∷ []) $ owned ! row (Is row) (makes 𝓤 H A W) h _ ih $ move ! (1 ∷ 0 ∷ []) $ use2 W (‵ (mem row .lies h l₃ 0)) (lies-in 𝓤 H A W h l₃) $
         lft-new ! tt (λ α. move ! (1 ∷ []) $
-        use1 W (later (some (λ (δ : GName). ‵ (MutRef (named 0) (α ∷ []) row .own (lent l₃ δ) (vptr l₃ 0 ∷ [])) ⊛ ‵ (flent (α ∷ []) (Body (mem row) l₃ 0 δ))))) (lends-ref 𝓤 H A W row (named 0) (α ∷ []) h l₃ 0) $ await ! tt $ pick ! (λ δ. split ! $
+        use1 W (later (some (λ (δ : GName). ‵ (MutRef (named 0) (α ∷ []) row .own (lent l₃ δ) (vptr l₃ 0 ∷ [])) ⊛ ‵
+        (flent (α ∷ []) (Body (mem row) l₃ 0 δ))))) (lends-ref 𝓤 H A W row (named 0) (α ∷ []) h l₃ 0) $ await ! tt $ pick ! (λ δ. split ! $
         move ! (2 ∷ 0 ∷ []) $ use2 W (raw (G 𝓤 H A at-mem run .pre (to-g α l₃ δ))) (goes-g α l₃ δ) $
         -- [what the callee asks; the lender's part; _5; …; _4; …; what frees _3; _2; …; _1; …; room for _0; …]
-        calls-at ! fm (G 𝓤 H A at-mem run) known (to-g α l₃ δ) (and-then ! (load ! (from ! (stop !)) (look ! 2 refl)) (and-then ! (load ! (from ! (stop !)) (look ! 7 refl)) (no-more !))) (λ v.
-        use1 W (later (some (λ (u : Unit {0}). ((‵ (flft (α ∷ []) fullShare) ⊛ ‵ ftrue) ⊛ ‵ (unit .own u (v ∷ []))) ⊛ raw (ensured 𝓤 H A g.ended (g.clauses 𝓤 H A at-mem run) (α ∷ [], tt) (lent l₃ δ, (n, tt)) tt u)))) (id⊢ 𝓤 _) $ await ! tt $ pick ! (λ u.
+        calls-at ! fm (G 𝓤 H A at-mem run) known (to-g α l₃ δ)
+        (and-then ! (load ! (from ! (stop !)) (look ! 2 refl)) (and-then ! (load ! (from ! (stop !)) (look ! 7 refl)) (no-more !))) (λ v.
+        use1 W (later (some (λ (u : Unit {0}). ((‵ (flft (α ∷ []) fullShare) ⊛ ‵ ftrue) ⊛ ‵ (unit .own u (v ∷ []))) ⊛ raw
+        (ensured 𝓤 H A g.ended (g.clauses 𝓤 H A at-mem run) (α ∷ [], tt) (lent l₃ δ, (n, tt)) tt u)))) (id⊢ 𝓤 _) $ await ! tt $ pick ! (λ u.
         -- what the callee ensures, at some last record
-        split ! $ move ! (1 ∷ []) $ use1 W (some (λ (ws : Totals × (Unit {0} × Unit {0})). ‵ (lasts g.ended (α ∷ [], tt) (lent l₃ δ, (n, tt)) ws) ⊛ raw (fact 𝓤 (ws .0 ≡ noted.evicted h n)))) (id⊢ 𝓤 _) $ pick ! (λ ws.
+        split ! $ move ! (1 ∷ []) $ use1 W (some
+        (λ (ws : Totals × (Unit {0} × Unit {0})). ‵ (lasts g.ended (α ∷ [], tt) (lent l₃ δ, (n, tt)) ws) ⊛ raw
+        (fact 𝓤 (ws .0 ≡ noted.evicted h n)))) (id⊢ 𝓤 _) $ pick ! (λ ws.
         split ! $ move ! (1 ∷ []) $ heard ! (ws .0 ≡ noted.evicted h n) (λ e. fsplit ! $ move ! (2 ∷ []) $ split ! $ move ! (1 ∷ []) $ feqL ! (λ eu.
         -- [the token and true; the last value; rest; the lender's part; _5; …; _4; …; what frees _3; _2; …; _1; …; room for _0; …]
         land ! (from ! (stop !)) (init ! 6 refl (subst (λ (y : Val). Holds (hasTy tyUnit y) × WT y) (sym (ap only eu)) (tt, tt))) $
@@ -113,21 +123,26 @@ module _ {M : Type 1} (𝓤 : URA M) (H : Heap 𝓤) (A : Atoms 𝓤) (W : Given
         -- [_3; what it owns; true; rest; _5; …; _4; …; what frees _3; _2; …; _1; …; room for _0; …]
         assigns ! (of-opd ! (load ! (from ! (stop !)) (look ! 0 refl))) (from ! (stop !)) (init ! 13 refl (typed 𝓤 H A W (ws .0) _ ir)) $
         returns ! (look ! 13 refl) $ forget ! 0 refl $ forget ! 4 refl $ forget ! 6 refl $ forget ! 9 refl $ forget ! 11 refl $ forget ! 13 refl $
-        move ! (13 ∷ 14 ∷ []) $ free1 ! $ move ! (11 ∷ 12 ∷ []) $ free1 ! $ move ! (9 ∷ 10 ∷ []) $ free1 ! $ move ! (0 ∷ 8 ∷ []) $ free1 ! $ move ! (5 ∷ 6 ∷ []) $ free1 ! $ move ! (3 ∷ 4 ∷ []) $ free1 ! $ free0 ! $
+        move ! (13 ∷ 14 ∷ []) $ free1 ! $ move ! (11 ∷ 12 ∷ []) $ free1 ! $ move ! (9 ∷ 10 ∷ []) $ free1 ! $ move ! (0 ∷ 8 ∷ []) $ free1 ! $ move !
+        (5 ∷ 6 ∷ []) $ free1 ! $ move ! (3 ∷ 4 ∷ []) $ free1 ! $ free0 ! $
         keep ! (0 ∷ []) $ by ! (exits (ws .0) e)))))))))))))))
 
 module _ {M : Type 1} (𝓤 : URA M) (H : Heap 𝓤) (A : Atoms 𝓤) (W : Given 𝓤 H A) (at-mem : Memory → SProp 𝓤) (run : Routine → Fun 𝓤) where
-  f-walks : (C : Calls 𝓤 H) (Λ : Loops 𝓤 H) → FmC 𝓤 H (W .laws) C → Triple 𝓤 (C #g) (G 𝓤 H A at-mem run) → Walks 𝓤 H A f.ended stayed (WpFn 𝓤 H C Λ code.function) (f.clauses 𝓤 H A at-mem run)
-  f-walks C Λ fm known = walked 𝓤 H A f.ended stayed (f.clauses 𝓤 H A at-mem run) (WpFn 𝓤 H C Λ code.function) (λ κs. (vals, (uint-vals w64, tt))) (λ κs. (tells, (uint-tells w64, tt)))
+  f-walks : (C : Calls 𝓤 H) (Λ : Loops 𝓤 H) → FmC 𝓤 H (W .laws) C → Triple 𝓤 (C #g) (G 𝓤 H A at-mem run) →
+      Walks 𝓤 H A f.ended stayed (WpFn 𝓤 H C Λ code.function) (f.clauses 𝓤 H A at-mem run)
+  f-walks C Λ fm known = walked 𝓤 H A f.ended stayed (f.clauses 𝓤 H A at-mem run) (WpFn 𝓤 H C Λ code.function) (λ κs. (vals, (uint-vals w64, tt)))
+      (λ κs. (tells, (uint-tells w64, tt)))
       (λ κs qs bounds a _ are. via 𝓤 _ (fst∗ 𝓤 _ (emp 𝓤)) (walk 𝓤 H A W at-mem run (a .0) (a .1 .0) (are .0) (are .1 .0 .1) C Λ fm known))
 
   goes : AllGo 𝓤 H A W 0 (f.signature .params) (f.ended .kept) stayed
   goes = (goes-none 𝓤 H A W 0 (λ _. row) yes (λ κs x f. refl), (goes-none 𝓤 H A W 0 (λ _. u64) yes (λ κs x f. refl), tt))
 
-f-meets : {M : Type 1} (𝓤 : URA M) (H : Heap 𝓤) (A : Atoms 𝓤) (W : Given 𝓤 H A) (at-mem : Memory → SProp 𝓤) (run : Routine → Fun 𝓤) (𝓣 : Tables 𝓤 H) → Triple 𝓤 (𝓣 .C #g) (G 𝓤 H A at-mem run)
+f-meets : {M : Type 1} (𝓤 : URA M) (H : Heap 𝓤) (A : Atoms 𝓤) (W : Given 𝓤 H A) (at-mem : Memory → SProp 𝓤) (run : Routine → Fun 𝓤)
+    (𝓣 : Tables 𝓤 H) → Triple 𝓤 (𝓣 .C #g) (G 𝓤 H A at-mem run)
     → Meets 𝓤 H A f.signature (WpFn 𝓤 H (𝓣 .C) (𝓣 .Λ) code.function) (f.spec 𝓤 H A at-mem run)
 f-meets 𝓤 H A W at-mem run 𝓣 known =
-    walk-meets 𝓤 H A f.ended stayed W (goes 𝓤 H A W at-mem run) (f.clauses 𝓤 H A at-mem run) (WpFn 𝓤 H (𝓣 .C) (𝓣 .Λ) code.function) (WpFn-mono 𝓤 H (W .laws) 𝓣 code.function)
+    walk-meets 𝓤 H A f.ended stayed W (goes 𝓤 H A W at-mem run) (f.clauses 𝓤 H A at-mem run) (WpFn 𝓤 H (𝓣 .C) (𝓣 .Λ) code.function)
+    (WpFn-mono 𝓤 H (W .laws) 𝓣 code.function)
     (f-walks 𝓤 H A W at-mem run (𝓣 .C) (𝓣 .Λ) (fmOf 𝓤 H (W .laws) 𝓣) known)
 
 pub after-eviction-spec : {M : Type 1} → stated.statement M

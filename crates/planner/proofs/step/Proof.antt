@@ -34,26 +34,36 @@ same-length c = search needs
 
 returns : tie.Need-returns
 returns c =
-    let a = c .before .before .before .before .before .before .before .before .before .before .before .before .before .before .before .before .before .before .before .before .before .before .before .before .args in
-    let g = c .before .before .before .before .before .before .before .before .before .before .before .before .before .before .before .before .before .before .write-gpus in
-    let j = c .before .before .before .before .before .before .before .before .before .before .before .before .before .before .before .before .write-jobs in
-    let e = c .before .before .before .before .before .before .before .before .before .before .before .before .before .before .write-events in
+    let if1 = c .before .before .before .before .if1 in
+    let is-taken = c .before .before .before .before .before .is-taken in
     let s = c .before .before .before .before .before .before .before .before .step-lent in
-    let whole = ap (λ (r : Rest). wholePlan r (g .last .0) (j .last .0) (e .last .0)) (c .before .before .before .before .before .before .before .before .before .before .rest-of .ensures) ∙ whole-is (a .plan) (g .last .0) (j .last .0) (e .last .0) (g .ensures) (j .ensures) (e .ensures) in
+    let rest-of = c .before .before .before .before .before .before .before .before .before .before .rest-of in
+    let back = c .before .before .before .before .before .before .before .before .before .before in
+    let e = back .before .before .before .before .write-events in
+    let j = back .before .before .before .before .before .before .write-jobs in
+    let g = back .before .before .before .before .before .before .before .before .write-gpus in
+    let further = back .before .before .before .before .before .before .before .before .before .before in
+    let a = further .before .before .before .before .args in
+    let whole = ap (λ (r : Rest). wholePlan r (g .last .0) (j .last .0) (e .last .0)) (rest-of .ensures)
+    ∙ whole-is (a .plan) (g .last .0) (j .last .0) (e .last .0) (g .ensures) (j .ensures) (e .ensures) in
     let l = s .ensures (λ i l h. absurd (omega arith)) in
-    done-lent (a .plan) (a .decisions .now) _ whole (s .result .answer) (c .plan-of .result) _ (l .0, (c .plan-of .ensures ∙ l .1 .0, l .1 .1)) (sym (c .before .before .before .before .before .is-taken .ensures) ∙ c .before .before .before .before .if1 .taken)
+    done-lent (a .plan) (a .decisions .now) _ whole (s .result .answer) (c .plan-of .result) _ (l .0, (c .plan-of .ensures ∙ l .1 .0, l .1 .1))
+    (sym (is-taken .ensures) ∙ if1 .taken)
 
 same-length-2 : tie.Need-same-length-2
 same-length-2 c = search needs
 
 returns-2 : tie.Need-returns-2
 returns-2 c =
-    let a = c .before .before .before .before .before .before .before .before .before .before .before .before .before .before .before .before .before .before .before .before .args in
-    let g = c .before .before .before .before .before .before .before .before .before .before .before .before .before .before .write-gpus in
-    let j = c .before .before .before .before .before .before .before .before .before .before .before .before .write-jobs in
-    let e = c .before .before .before .before .before .before .before .before .before .before .write-events in
     let s = c .before .before .before .before .step-lent in
-    let whole = ap (λ (r : Rest). wholePlan r (g .last .0) (j .last .0) (e .last .0)) (c .before .before .before .before .before .before .rest-of .ensures) ∙ whole-is (a .plan) (g .last .0) (j .last .0) (e .last .0) (g .ensures) (j .ensures) (e .ensures) in
+    let rest-of = c .before .before .before .before .before .before .rest-of in
+    let e = c .before .before .before .before .before .before .before .before .before .before .write-events in
+    let j = c .before .before .before .before .before .before .before .before .before .before .before .before .write-jobs in
+    let back = c .before .before .before .before .before .before .before .before .before .before in
+    let g = back .before .before .before .before .write-gpus in
+    let a = back .before .before .before .before .before .before .before .before .before .before .args in
+    let whole = ap (λ (r : Rest). wholePlan r (g .last .0) (j .last .0) (e .last .0)) (rest-of .ensures)
+    ∙ whole-is (a .plan) (g .last .0) (j .last .0) (e .last .0) (g .ensures) (j .ensures) (e .ensures) in
     let l = s .ensures (λ i l h. absurd (omega arith)) in
     done-kept (a .plan) (a .decisions .now) _ whole (s .result .answer) _ _ l (sym (c .before .is-taken .ensures) ∙ c .if1 .left)
 

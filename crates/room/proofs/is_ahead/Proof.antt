@@ -15,7 +15,9 @@ is-earlier-requires c κs = search needs
 
 returns : tie.Need-returns
 unfolding ahead
-returns c = rw (← c .before .before .before .before .is-used .ensures, c .before .before .before .if1 .taken, ← c .before .before .is-used2 .ensures, c .before .if2 .taken) (c .is-earlier .ensures)
+returns c =
+    let is-used = c .before .before .before .before .is-used in
+    rw (← is-used .ensures, c .before .before .before .if1 .taken, ← c .before .before .is-used2 .ensures, c .before .if2 .taken) (c .is-earlier .ensures)
 
 returns-2 : tie.Need-returns-2
 unfolding ahead

@@ -13,15 +13,34 @@ bits-of-requires-2 c κs = search needs
 
 returns : tie.Need-returns
 unfolding earlier
-returns c = rw (← c .before .bits-of2 .ensures, ← c .before .before .bits-of .ensures, lt-ltb (c .before .before .bits-of .result) (c .before .bits-of2 .result) (c .if1 .taken))
+returns c =
+    let bits-of2 = c .before .bits-of2 in
+    let bits-of = c .before .before .bits-of in
+    rw (← bits-of2 .ensures, ← bits-of .ensures, lt-ltb (bits-of .result) (bits-of2 .result) (c .if1 .taken))
 
 returns-2 : tie.Need-returns-2
 unfolding earlier
-returns-2 c = rw (← c .before .before .bits-of2 .ensures, ← c .before .before .before .bits-of .ensures, le-ltb (c .before .before .before .bits-of .result) (c .before .before .bits-of2 .result) (c .before .if1 .left), lt-ltb (c .before .before .bits-of2 .result) (c .before .before .before .bits-of .result) (c .if2 .taken))
+returns-2 c =
+    let bits-of2 = c .before .before .bits-of2 in
+    let bits-of = c .before .before .before .bits-of in
+    rw (
+      ← bits-of2 .ensures,
+      ← bits-of .ensures,
+      le-ltb (bits-of .result) (bits-of2 .result) (c .before .if1 .left),
+      lt-ltb (bits-of2 .result) (bits-of .result) (c .if2 .taken),
+    )
 
 returns-3 : tie.Need-returns-3
 unfolding earlier
-returns-3 c = rw (← c .before .before .before .before .bits-of2 .ensures, ← c .before .before .before .before .before .bits-of .ensures, le-ltb (c .before .before .before .before .before .bits-of .result) (c .before .before .before .before .bits-of2 .result) (c .before .before .before .if1 .left), le-ltb (c .before .before .before .before .bits-of2 .result) (c .before .before .before .before .before .bits-of .result) (c .before .before .if2 .left))
+returns-3 c =
+    let bits-of2 = c .before .before .before .before .bits-of2 in
+    let bits-of = c .before .before .before .before .before .bits-of in
+    rw (
+      ← bits-of2 .ensures,
+      ← bits-of .ensures,
+      le-ltb (bits-of .result) (bits-of2 .result) (c .before .before .before .if1 .left),
+      le-ltb (bits-of2 .result) (bits-of .result) (c .before .before .if2 .left),
+    )
 
 pub is-earlier-spec : {M : Type 1} → statement M
 is-earlier-spec =

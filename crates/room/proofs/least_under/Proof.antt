@@ -48,15 +48,23 @@ loop-less c = omega arith
 
 loop-again : tie.Need-loop-again Inv-loop μ-loop
 loop-again c =
-    let f : c .if1 .best ≡ pick (aheadAt (eventsOf (c .before .before .before .before .before .before .args .room .now)) (c .before .before .before .before .loop .i) (c .before .before .before .before .loop .best)) (c .before .before .before .before .loop .i) (c .before .before .before .before .loop .best) =
+    let read-event = c .before .before .read-event in
+    let here = c .before .before .before .before .loop in
+    let lesser = c .before .before .before .before .before .lesser in
+    let start = c .before .before .before .before .before .before .args in
+    let f : c .if1 .best ≡ pick (aheadAt (eventsOf (start .room .now)) (here .i) (here .best)) (here .i) (here .best) =
     ⊎-elim
-    (λ w. w .3 ∙ rw (c .before .before .read-event .ensures, w .1 .ensures) at (w .2 .ensures))
-    (λ w. let u : used (c .before .before .read-event .result) ≡ false = sym (c .before .is-used .ensures) ∙ w .0 .left in rw (empty-behind (eventsOf (c .before .before .before .before .before .before .args .room .now)) (c .before .before .before .before .loop .i) (c .before .before .before .before .loop .best) (rw (c .before .before .read-event .ensures) at u)) (w .1))
+    (λ w. w .3 ∙ rw (read-event .ensures, w .1 .ensures) at (w .2 .ensures))
+    (λ w. let u : used (read-event .result) ≡ false = sym (c .before .is-used .ensures)
+    ∙ w .0 .left in rw (empty-behind (eventsOf (start .room .now)) (here .i) (here .best) (rw (read-event .ensures) at u)) (w .1))
     (c .if1 .came) in
-    rw (f, ← best-step (aheadAt (eventsOf (c .before .before .before .before .before .before .args .room .now))) (c .before .before .before .before .before .lesser .result) (c .before .before .before .before .loop .i) (c .before .before .before .before .loop .best) (omega arith)) (c .before .before .before .before .loop .inv)
+    rw (f, ← best-step (aheadAt (eventsOf (start .room .now))) (lesser .result) (here .i) (here .best) (omega arith)) (here .inv)
 
 returns : tie.Need-returns Inv-loop μ-loop
-returns c = rw (best-end (aheadAt (eventsOf (c .before .before .before .args .room .now))) (c .before .before .lesser .result) (c .before .loop .i) (c .before .loop .best) (omega arith)) at (c .before .loop .inv)
+returns c =
+    let here = c .before .loop in
+    rw (best-end (aheadAt (eventsOf (c .before .before .before .args .room .now))) (c .before .before .lesser .result) (here .i) (here .best)
+    (omega arith)) at (here .inv)
 
 pub least-under-spec : {M : Type 1} → statement M
 least-under-spec =

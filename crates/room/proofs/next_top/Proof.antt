@@ -37,13 +37,19 @@ loop-less c = omega arith
 
 loop-again : tie.Need-loop-again Inv-loop μ-loop
 loop-again c =
-    let h : freeAt (eventsOf (c .before .before .before .before .before .args .room .now)) (c .before .before .before .before .loop .i) ≡ false = free-not (eventsOf (c .before .before .before .before .before .args .room .now)) (c .before .before .before .before .loop .i) (rw (c .before .is-used .ensures, c .before .before .read-event .ensures) at (c .if1 .taken)) in
-    rw (← first-next (freeAt (eventsOf (c .before .before .before .before .before .args .room .now))) Sizes.events (c .before .before .before .before .loop .i) (omega arith) h) (c .before .before .before .before .loop .inv)
+    let here = c .before .before .before .before .loop in
+    let start = c .before .before .before .before .before .args in
+    let h : freeAt (eventsOf (start .room .now)) (here .i) ≡ false =
+    free-not (eventsOf (start .room .now)) (here .i) (rw (c .before .is-used .ensures, c .before .before .read-event .ensures) at (c .if1 .taken)) in
+    rw (← first-next (freeAt (eventsOf (start .room .now))) Sizes.events (here .i) (omega arith) h) (here .inv)
 
 returns : tie.Need-returns Inv-loop μ-loop
 returns c =
-    let h : freeAt (eventsOf (c .before .before .before .before .before .args .room .now)) (c .before .before .before .before .loop .i) ≡ true = free-is (eventsOf (c .before .before .before .before .before .args .room .now)) (c .before .before .before .before .loop .i) (rw (c .before .is-used .ensures, c .before .before .read-event .ensures) at (c .if1 .left)) in
-    rw (first-found (freeAt (eventsOf (c .before .before .before .before .before .args .room .now))) Sizes.events (c .before .before .before .before .loop .i) (omega arith) h) at (c .before .before .before .before .loop .inv)
+    let here = c .before .before .before .before .loop in
+    let start = c .before .before .before .before .before .args in
+    let h : freeAt (eventsOf (start .room .now)) (here .i) ≡ true =
+    free-is (eventsOf (start .room .now)) (here .i) (rw (c .before .is-used .ensures, c .before .before .read-event .ensures) at (c .if1 .left)) in
+    rw (first-found (freeAt (eventsOf (start .room .now))) Sizes.events (here .i) (omega arith) h) at (here .inv)
 
 returns-2 : tie.Need-returns-2 Inv-loop μ-loop
 returns-2 c = rw (first-end (freeAt (eventsOf (c .before .before .args .room .now))) Sizes.events (c .before .loop .i) (omega arith)) at (c .before .loop .inv)

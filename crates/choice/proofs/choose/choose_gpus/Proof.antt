@@ -20,13 +20,25 @@ choice-of-requires : tie.Need-choice-of-requires
 choice-of-requires c κs = search needs
 
 returns : tie.Need-returns
-returns c = choose-yes _ _ _ _ (c .before .before .before .before .before .eligible-gpus .result) (c .before .before .before .before .keys-for .result) (c .before .before .before .why-not .result) (c .before .before .before .before .before .eligible-gpus .ensures) (c .before .before .before .before .keys-for .ensures) (c .before .before .before .why-not .ensures) _ (c .before .before .is-enough .result) _ (c .before .before .is-enough .ensures) (c .before .if1 .taken) (c .choice-of .ensures)
+returns c =
+    let is-enough = c .before .before .is-enough in
+    let why-not = c .before .before .before .why-not in
+    let keys-for = c .before .before .before .before .keys-for in
+    let eligible-gpus = c .before .before .before .before .before .eligible-gpus in
+    choose-yes _ _ _ _ (eligible-gpus .result) (keys-for .result) (why-not .result) (eligible-gpus .ensures) (keys-for .ensures) (why-not .ensures) _
+    (is-enough .result) _ (is-enough .ensures) (c .before .if1 .taken) (c .choice-of .ensures)
 
 no-choice-requires : tie.Need-no-choice-requires
 no-choice-requires c κs = search needs
 
 returns-2 : tie.Need-returns-2
-returns-2 c = choose-no _ _ _ _ (c .before .before .before .before .before .eligible-gpus .result) (c .before .before .before .before .keys-for .result) (c .before .before .before .why-not .result) (c .before .before .before .before .before .eligible-gpus .ensures) (c .before .before .before .before .keys-for .ensures) (c .before .before .before .why-not .ensures) _ (c .before .before .is-enough .result) _ (c .before .before .is-enough .ensures) (c .before .if1 .left) (c .no-choice .ensures)
+returns-2 c =
+    let is-enough = c .before .before .is-enough in
+    let why-not = c .before .before .before .why-not in
+    let keys-for = c .before .before .before .before .keys-for in
+    let eligible-gpus = c .before .before .before .before .before .eligible-gpus in
+    choose-no _ _ _ _ (eligible-gpus .result) (keys-for .result) (why-not .result) (eligible-gpus .ensures) (keys-for .ensures) (why-not .ensures) _
+    (is-enough .result) _ (is-enough .ensures) (c .before .if1 .left) (c .no-choice .ensures)
 
 pub choose-gpus-spec : {M : Type 1} → statement M
 choose-gpus-spec =

@@ -14,7 +14,10 @@ why-not-requires : tie.Need-why-not-requires
 why-not-requires c κs = search needs
 
 returns : tie.Need-returns
-returns c = why-here _ _ _ _ (c .before .before .eligible-gpus .result) (c .before .keys-for .result) (c .why-not .result) (c .before .before .eligible-gpus .ensures) (c .before .keys-for .ensures) (c .why-not .ensures)
+returns c =
+    let keys-for = c .before .keys-for in
+    let eligible-gpus = c .before .before .eligible-gpus in
+    why-here _ _ _ _ (eligible-gpus .result) (keys-for .result) (c .why-not .result) (eligible-gpus .ensures) (keys-for .ensures) (c .why-not .ensures)
 
 pub why-not-here-spec : {M : Type 1} → statement M
 why-not-here-spec =

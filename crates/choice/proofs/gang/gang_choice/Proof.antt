@@ -12,7 +12,9 @@ use Rattle.choice.proofs.gang.gang_choice.Statement.{statement}
 use Rattle.choice.proofs.gang.gang_choice.Tie as tie
 
 abbrev Inv-loop : tie.InvT-loop
-Inv-loop e nodes groups per g ids n all₀ penalised₀ i₀ all penalised i = (i ≤ n) × (n ≤ 128) × (all ≡ chosen (take 128 (shares nodes groups (listOf e) per (take i ids)))) × (penalised ≡ anyParted nodes groups (listOf e) per (take i ids)) × (length ids ≡ 128)
+Inv-loop e nodes groups per g ids n all₀ penalised₀ i₀ all penalised i =
+    (i ≤ n) × (n ≤ 128) × (all ≡ chosen (take 128 (shares nodes groups (listOf e) per (take i ids)))) ×
+    (penalised ≡ anyParted nodes groups (listOf e) per (take i ids)) × (length ids ≡ 128)
 
 abbrev μ-loop : tie.MeasureT-loop
 μ-loop e nodes groups per g ids n all₀ penalised₀ i₀ all penalised i = n - i
@@ -56,12 +58,19 @@ loop-less c = omega arith
 
 loop-again : tie.Need-loop-again Inv-loop μ-loop
 loop-again c =
-    let z : length (c .before .before .before .before .before .before .before .before .before .before .gang-nodes .result .ids) ≡ 128 = c .before .before .before .before .before .before .loop .inv .4 in
-    let h : c .before .before .before .before .before .before .loop .i < length (c .before .before .before .before .before .before .before .before .before .before .gang-nodes .result .ids) = omega arith in (
+    let node-share = c .before .before .before .node-share in
+    let with-key = c .before .before .before .before .with-key in
+    let here = c .before .before .before .before .before .before .loop in
+    let gang-nodes = c .before .before .before .before .before .before .before .before .before .before .gang-nodes in
+    let start = c .before .before .before .before .before .before .before .before .before .before .before .args in
+    let z : length (gang-nodes .result .ids) ≡ 128 = here .inv .4 in
+    let h : here .i < length (gang-nodes .result .ids) = omega arith in (
       omega arith,
       omega arith,
-      share-turn (c .before .before .before .before .before .before .before .before .before .before .before .args .nodes) (c .before .before .before .before .before .before .before .before .before .before .before .args .groups) (listOf (c .before .before .before .before .before .before .before .before .before .before .before .args .e)) (c .before .before .before .before .before .before .before .before .before .before .before .args .per) (c .before .before .before .before .before .before .before .before .before .before .gang-nodes .result .ids) (c .before .before .before .before .before .before .loop .i) h (c .before .before .before .before .with-key .result) (c .before .before .before .node-share .result) (c .before .before .before .before .with-key .ensures) (c .before .before .before .node-share .ensures) (c .before .before .before .before .before .before .loop .all) _ (c .before .before .before .before .before .before .loop .inv .2) (c .before .append .ensures),
-      parted-turn (c .before .before .before .before .before .before .before .before .before .before .before .args .nodes) (c .before .before .before .before .before .before .before .before .before .before .before .args .groups) (listOf (c .before .before .before .before .before .before .before .before .before .before .before .args .e)) (c .before .before .before .before .before .before .before .before .before .before .before .args .per) (c .before .before .before .before .before .before .before .before .before .before .gang-nodes .result .ids) (c .before .before .before .before .before .before .loop .i) h (c .before .before .before .before .with-key .result) (c .before .before .before .node-share .result) (c .before .before .before .before .with-key .ensures) (c .before .before .before .node-share .ensures) (c .before .before .before .before .before .before .loop .penalised) _ (c .before .before .before .before .before .before .loop .inv .3) (c .either .ensures),
+      share-turn (start .nodes) (start .groups) (listOf (start .e)) (start .per) (gang-nodes .result .ids) (here .i) h (with-key .result)
+          (node-share .result) (with-key .ensures) (node-share .ensures) (here .all) _ (here .inv .2) (c .before .append .ensures),
+      parted-turn (start .nodes) (start .groups) (listOf (start .e)) (start .per) (gang-nodes .result .ids) (here .i) h (with-key .result)
+          (node-share .result) (with-key .ensures) (node-share .ensures) (here .penalised) _ (here .inv .3) (c .either .ensures),
       z,
     )
 
@@ -70,10 +79,16 @@ take-these-requires c κs = search needs
 
 returns : tie.Need-returns Inv-loop μ-loop
 returns c =
-    let z : length (c .before .before .before .before .before .before .gang-nodes .result .ids) ≡ 128 = search needs in
-    let y : length (c .before .before .before .before .before .before .before .args .e .ids) ≡ 128 = search needs in
-    let i : c .before .before .loop .i ≡ c .before .before .before .before .lesser .result = omega arith in
-    gang-done (c .before .before .before .before .before .before .before .args .nodes) (c .before .before .before .before .before .before .before .args .groups) (listOf (c .before .before .before .before .before .before .before .args .e)) (c .before .before .before .before .before .before .before .args .per) (c .before .before .before .before .before .before .before .args .g) (c .before .before .before .before .lesser .result) (c .before .before .before .before .before .before .gang-nodes .result) (c .before .before .loop .all) (c .before .before .loop .penalised) (c .take-these .result) (c .before .before .before .before .before .before .gang-nodes .ensures) z (c .before .before .before .before .lesser .ensures) (held-length (c .before .before .before .before .before .before .before .args .e) y) (rw i at (c .before .before .loop .inv .2)) (rw i at (c .before .before .loop .inv .3)) (c .take-these .ensures)
+    let start = c .before .before .before .before .before .before .before .args in
+    let y : length (start .e .ids) ≡ 128 = search needs in
+    let gang-nodes = c .before .before .before .before .before .before .gang-nodes in
+    let z : length (gang-nodes .result .ids) ≡ 128 = search needs in
+    let here = c .before .before .loop in
+    let lesser = c .before .before .before .before .lesser in
+    let i : here .i ≡ lesser .result = omega arith in
+    gang-done (start .nodes) (start .groups) (listOf (start .e)) (start .per) (start .g) (lesser .result) (gang-nodes .result) (here .all)
+    (here .penalised) (c .take-these .result) (gang-nodes .ensures) z (lesser .ensures) (held-length (start .e) y) (rw i at (here .inv .2))
+    (rw i at (here .inv .3)) (c .take-these .ensures)
 
 pub gang-choice-spec : {M : Type 1} → statement M
 gang-choice-spec =

@@ -17,7 +17,12 @@ first-of-requires : tie.Need-first-of-requires
 first-of-requires c κs = search needs
 
 returns : tie.Need-returns
-returns c = order-held _ _ _ _ _ (c .before .before .before .those-nodes .result) (c .before .before .those-nodes2 .result) (c .before .append .result) _ (c .before .before .before .those-nodes .ensures) (c .before .before .those-nodes2 .ensures) (c .before .append .ensures) (c .first-of .ensures)
+returns c =
+    let append = c .before .append in
+    let those-nodes2 = c .before .before .those-nodes2 in
+    let those-nodes = c .before .before .before .those-nodes in
+    order-held _ _ _ _ _ (those-nodes .result) (those-nodes2 .result) (append .result) _ (those-nodes .ensures) (those-nodes2 .ensures)
+    (append .ensures) (c .first-of .ensures)
 
 pub gang-nodes-spec : {M : Type 1} → statement M
 gang-nodes-spec =

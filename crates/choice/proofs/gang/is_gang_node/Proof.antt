@@ -14,10 +14,17 @@ node-share-requires : tie.Need-node-share-requires
 node-share-requires c κs = search needs
 
 returns-2 : tie.Need-returns-2
-returns-2 c = rw (c .if2 .taken) (node-parted _ _ _ _ _ (c .before .before .before .with-key .result) (c .before .before .before .with-key .ensures) (c .before .node-share .result) (c .before .before .if1 .left) (c .before .node-share .ensures))
+returns-2 c =
+    let node-share = c .before .node-share in
+    let with-key = c .before .before .before .with-key in
+    rw (c .if2 .taken) (node-parted _ _ _ _ _ (with-key .result) (with-key .ensures) (node-share .result) (c .before .before .if1 .left) (node-share .ensures))
 
 returns-3 : tie.Need-returns-3
-returns-3 c = rw (c .before .if2 .left) (node-whole _ _ _ _ _ (c .before .before .before .before .with-key .result) (c .before .before .before .before .with-key .ensures) (c .before .before .node-share .result) (c .before .before .before .if1 .left) (c .before .before .node-share .ensures))
+returns-3 c =
+    let node-share = c .before .before .node-share in
+    let with-key = c .before .before .before .before .with-key in
+    rw (c .before .if2 .left) (node-whole _ _ _ _ _ (with-key .result) (with-key .ensures) (node-share .result)
+    (c .before .before .before .if1 .left) (node-share .ensures))
 
 pub is-gang-node-spec : {M : Type 1} → statement M
 is-gang-node-spec =

@@ -57,12 +57,18 @@ loop-less c = omega arith
 
 loop-again : tie.Need-loop-again Inv-loop μ-loop
 loop-again c =
-    let f : Kept (c .if1 .ids) (c .if1 .k) (those (gangNode (c .before .before .before .before .before .before .before .args .nodes) (c .before .before .before .before .before .before .before .args .groups) (listOf (c .before .before .before .before .before .before .before .args .e)) (c .before .before .before .before .before .before .before .args .per) (c .before .before .before .before .before .before .before .args .penalised)) (c .before .before .before .before .loop .i + 1) 0) =
+    let counted-at = c .before .counted-at in
+    let here = c .before .before .before .before .loop in
+    let tally = c .before .before .before .before .before .before .tally in
+    let start = c .before .before .before .before .before .before .before .args in
+    let f : Kept (c .if1 .ids) (c .if1 .k) (those (gangNode (start .nodes) (start .groups) (listOf (start .e)) (start .per) (start .penalised)) (here .i + 1) 0) =
     ⊎-elim
-    (λ w. rw (w .3, w .4) (those-turn-take _ _ _ _ (omega arith) (sym (w .1 .ensures) ∙ w .2 .taken) (c .before .before .before .before .loop .inv .2)))
+    (λ w. rw (w .3, w .4) (those-turn-take _ _ _ _ (omega arith) (sym (w .1 .ensures) ∙ w .2 .taken) (here .inv .2)))
     (λ v. ⊎-elim
-    (λ w. rw (w .3, w .4) (those-turn-skip _ _ _ _ (sym (w .1 .ensures) ∙ w .2 .left) (c .before .before .before .before .loop .inv .2)))
-    (λ w. rw (w .1, w .2) (those-turn-skip _ _ _ _ (node-tallied-few (c .before .before .before .before .before .before .before .args .nodes) (c .before .before .before .before .before .before .before .args .groups) (listOf (c .before .before .before .before .before .before .before .args .e)) (c .before .before .before .before .before .before .tally .result) (c .before .before .before .before .before .before .before .args .per) (c .before .before .before .before .loop .i) (c .before .counted-at .result) (c .before .before .before .before .before .before .before .args .penalised) (c .before .before .before .before .before .before .tally .ensures) (omega arith) (c .before .counted-at .ensures) (w .0 .left)) (c .before .before .before .before .loop .inv .2)))
+    (λ w. rw (w .3, w .4) (those-turn-skip _ _ _ _ (sym (w .1 .ensures) ∙ w .2 .left) (here .inv .2)))
+    (λ w. rw (w .1, w .2) (those-turn-skip _ _ _ _
+    (node-tallied-few (start .nodes) (start .groups) (listOf (start .e)) (tally .result) (start .per) (here .i) (counted-at .result)
+    (start .penalised) (tally .ensures) (omega arith) (counted-at .ensures) (w .0 .left)) (here .inv .2)))
     v)
     (c .if1 .came) in
     (omega arith, those-size _ _ _ _ f, f)

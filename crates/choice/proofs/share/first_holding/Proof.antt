@@ -26,7 +26,11 @@ cast-result : tie.Need-cast-result Inv-loop μ-loop
 cast-result c = search needs
 
 returns : tie.Need-returns Inv-loop μ-loop
-returns c = sym (first-found (holds (c .before .before .before .before .before .args .counts .now) (c .before .before .before .before .before .args .per)) 257 (c .before .before .before .before .loop .i) (omega arith) (le-leb (c .before .before .before .before .before .args .per) (counted (c .before .before .before .before .before .args .counts .now) (c .before .before .before .before .loop .i)) (omega arith))) ∙ c .before .before .before .before .loop .inv .1
+returns c =
+    let here = c .before .before .before .before .loop in
+    let start = c .before .before .before .before .before .args in
+    sym (first-found (holds (start .counts .now) (start .per)) 257 (here .i) (omega arith)
+    (le-leb (start .per) (counted (start .counts .now) (here .i)) (omega arith))) ∙ here .inv .1
 
 add-i : tie.Need-add-i Inv-loop μ-loop
 add-i c = search needs
@@ -35,10 +39,20 @@ loop-less : tie.Need-loop-less Inv-loop μ-loop
 loop-less c = omega arith
 
 loop-again : tie.Need-loop-again Inv-loop μ-loop
-loop-again c = (omega arith, sym (first-next (holds (c .before .before .before .before .before .args .counts .now) (c .before .before .before .before .before .args .per)) 257 (c .before .before .before .before .loop .i) (omega arith) (lt-leb (c .before .before .before .before .before .args .per) (counted (c .before .before .before .before .before .args .counts .now) (c .before .before .before .before .loop .i)) (omega arith))) ∙ c .before .before .before .before .loop .inv .1)
+loop-again c =
+    let here = c .before .before .before .before .loop in
+    let start = c .before .before .before .before .before .args in (
+      omega arith,
+      sym (first-next (holds (start .counts .now) (start .per)) 257 (here .i) (omega arith)
+          (lt-leb (start .per) (counted (start .counts .now) (here .i)) (omega arith))) ∙ here .inv .1,
+    )
 
 returns-2 : tie.Need-returns-2 Inv-loop μ-loop
-returns-2 c = let e : c .before .loop .i ≡ 257 = omega arith in sym e ∙ sym (first-end (holds (c .before .before .args .counts .now) (c .before .before .args .per)) 257 (c .before .loop .i) (omega arith)) ∙ c .before .loop .inv .1
+returns-2 c =
+    let here = c .before .loop in
+    let start = c .before .before .args in
+    let e : here .i ≡ 257 = omega arith in
+    sym e ∙ sym (first-end (holds (start .counts .now) (start .per)) 257 (here .i) (omega arith)) ∙ here .inv .1
 
 pub first-holding-spec : {M : Type 1} → statement M
 first-holding-spec =

@@ -20,7 +20,13 @@ take-these-requires : tie.Need-take-these-requires
 take-these-requires c κs = search needs
 
 returns : tie.Need-returns
-returns c = share-one _ _ (c .before .before .before .before .before .before .tally .result) _ (c .before .before .before .before .first-holding .result) (c .before .first-of .result) _ (c .before .before .before .before .before .before .tally .ensures) (c .before .before .before .before .first-holding .ensures) (c .before .before .with-key .result) (c .before .before .before .if1 .taken) (c .before .before .with-key .ensures) (c .before .first-of .ensures) (c .take-these .ensures)
+returns c =
+    let first-of = c .before .first-of in
+    let with-key = c .before .before .with-key in
+    let first-holding = c .before .before .before .before .first-holding in
+    let tally = c .before .before .before .before .before .before .tally in
+    share-one _ _ (tally .result) _ (first-holding .result) (first-of .result) _ (tally .ensures) (first-holding .ensures) (with-key .result)
+    (c .before .before .before .if1 .taken) (with-key .ensures) (first-of .ensures) (c .take-these .ensures)
 
 first-of-requires-2 : tie.Need-first-of-requires-2
 first-of-requires-2 c κs = search needs
@@ -29,7 +35,12 @@ take-these-requires-2 : tie.Need-take-these-requires-2
 take-these-requires-2 c κs = search needs
 
 returns-2 : tie.Need-returns-2
-returns-2 c = share-none _ _ (c .before .before .before .before .before .tally .result) _ (c .before .before .before .first-holding .result) (c .before .first-of2 .result) _ (c .before .before .before .before .before .tally .ensures) (c .before .before .before .first-holding .ensures) (c .before .before .if1 .left) (c .before .first-of2 .ensures) (c .take-these2 .ensures)
+returns-2 c =
+    let first-of2 = c .before .first-of2 in
+    let first-holding = c .before .before .before .first-holding in
+    let tally = c .before .before .before .before .before .tally in
+    share-none _ _ (tally .result) _ (first-holding .result) (first-of2 .result) _ (tally .ensures) (first-holding .ensures)
+    (c .before .before .if1 .left) (first-of2 .ensures) (c .take-these2 .ensures)
 
 pub node-share-spec : {M : Type 1} → statement M
 node-share-spec =

@@ -43,15 +43,31 @@ loop-less c = omega arith
 
 loop-again : tie.Need-loop-again Inv-loop μ-loop
 loop-again c =
+    let here = c .before .before .before .before .loop in
+    let tally = c .before .before .before .before .before .tally in
+    let start = c .before .before .before .before .before .before .args in
     ⊎-elim
-    (λ w. (omega arith, omega arith, w .1 ∙ count-take (holds (c .before .before .before .before .before .tally .result) (c .before .before .before .before .before .before .args .per)) (c .before .before .before .before .loop .i) (c .before .before .before .before .loop .k) (c .before .before .before .before .loop .inv .2) (le-leb (c .before .before .before .before .before .before .args .per) (counted (c .before .before .before .before .before .tally .result) (c .before .before .before .before .loop .i)) (omega arith))))
-    (λ w. (omega arith, omega arith, w .1 ∙ count-skip (holds (c .before .before .before .before .before .tally .result) (c .before .before .before .before .before .before .args .per)) (c .before .before .before .before .loop .i) (c .before .before .before .before .loop .k) (c .before .before .before .before .loop .inv .2) (lt-leb (c .before .before .before .before .before .before .args .per) (counted (c .before .before .before .before .before .tally .result) (c .before .before .before .before .loop .i)) (omega arith))))
+    (λ w. (
+      omega arith,
+      omega arith,
+      w .1 ∙ count-take (holds (tally .result) (start .per)) (here .i) (here .k) (here .inv .2)
+          (le-leb (start .per) (counted (tally .result) (here .i)) (omega arith)),
+    ))
+    (λ w. (
+      omega arith,
+      omega arith,
+      w .1 ∙ count-skip (holds (tally .result) (start .per)) (here .i) (here .k) (here .inv .2)
+          (lt-leb (start .per) (counted (tally .result) (here .i)) (omega arith)),
+    ))
     (c .if1 .came)
 
 returns : tie.Need-returns Inv-loop μ-loop
 returns c =
-    let i : c .before .loop .i ≡ 32 = omega arith in
-    (rw i at (c .before .loop .inv .2)) ∙ ap length (count-done (c .before .before .before .args .nodes) _ (c .before .before .tally .result) (c .before .before .before .args .per) (c .before .before .tally .ensures))
+    let here = c .before .loop in
+    let tally = c .before .before .tally in
+    let start = c .before .before .before .args in
+    let i : here .i ≡ 32 = omega arith in
+    (rw i at (here .inv .2)) ∙ ap length (count-done (start .nodes) _ (tally .result) (start .per) (tally .ensures))
 
 pub count-nodes-spec : {M : Type 1} → statement M
 count-nodes-spec =

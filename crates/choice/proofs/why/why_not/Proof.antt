@@ -23,22 +23,31 @@ why-not-gang-requires : tie.Need-why-not-gang-requires
 why-not-gang-requires c κs = gang-some (c .before .before .before .before .before .args .ask) (sym (c .before .is-gang .ensures) ∙ c .if2 .taken)
 
 returns-2 : tie.Need-returns-2
-returns-2 c = c .why-not-gang .ensures ∙ why-gang _ _ (c .before .before .before .before .before .before .args .ask) (c .before .before .before .before .if1 .left) (sym (c .before .before .is-gang .ensures) ∙ c .before .if2 .taken)
+returns-2 c =
+    let if1 = c .before .before .before .before .if1 in
+    let start = c .before .before .before .before .before .before .args in
+    c .why-not-gang .ensures ∙ why-gang _ _ (start .ask) (if1 .left) (sym (c .before .before .is-gang .ensures) ∙ c .before .if2 .taken)
 
 lesser-requires : tie.Need-lesser-requires
 lesser-requires c κs = search needs
 
 returns-3 : tie.Need-returns-3
 returns-3 c =
-    let z : length (c .before .before .before .before .before .before .before .args .e .ids) ≡ 128 = search needs in
-    let n : c .before .lesser .result ≡ length (listOf (c .before .before .before .before .before .before .before .args .e)) = list-length (c .before .before .before .before .before .before .before .args .e) (c .before .lesser .result) z (c .before .lesser .ensures) in
-    why-enough _ _ (c .before .before .before .before .before .before .before .args .ask) (c .before .before .before .before .before .if1 .left) (sym (c .before .before .before .is-gang .ensures) ∙ c .before .before .if2 .left) (rw n at (c .if3 .taken))
+    let lesser = c .before .lesser in
+    let if1 = c .before .before .before .before .before .if1 in
+    let start = c .before .before .before .before .before .before .before .args in
+    let z : length (start .e .ids) ≡ 128 = search needs in
+    let n : lesser .result ≡ length (listOf (start .e)) = list-length (start .e) (lesser .result) z (lesser .ensures) in
+    why-enough _ _ (start .ask) (if1 .left) (sym (c .before .before .before .is-gang .ensures) ∙ c .before .before .if2 .left) (rw n at (c .if3 .taken))
 
 returns-4 : tie.Need-returns-4
 returns-4 c =
-    let z : length (c .before .before .before .before .before .before .before .args .e .ids) ≡ 128 = search needs in
-    let n : c .before .lesser .result ≡ length (listOf (c .before .before .before .before .before .before .before .args .e)) = list-length (c .before .before .before .before .before .before .before .args .e) (c .before .lesser .result) z (c .before .lesser .ensures) in
-    why-too-few _ _ (c .before .before .before .before .before .before .before .args .ask) (c .before .before .before .before .before .if1 .left) (sym (c .before .before .before .is-gang .ensures) ∙ c .before .before .if2 .left) (rw n at (c .if3 .left))
+    let lesser = c .before .lesser in
+    let if1 = c .before .before .before .before .before .if1 in
+    let start = c .before .before .before .before .before .before .before .args in
+    let z : length (start .e .ids) ≡ 128 = search needs in
+    let n : lesser .result ≡ length (listOf (start .e)) = list-length (start .e) (lesser .result) z (lesser .ensures) in
+    why-too-few _ _ (start .ask) (if1 .left) (sym (c .before .before .before .is-gang .ensures) ∙ c .before .before .if2 .left) (rw n at (c .if3 .left))
 
 pub why-not-spec : {M : Type 1} → statement M
 why-not-spec =

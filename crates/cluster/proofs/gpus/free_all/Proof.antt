@@ -14,7 +14,8 @@ use Rattle.cluster.proofs.gpus.free_all.Statement.{statement}
 use Rattle.cluster.proofs.gpus.free_all.Tie as tie
 
 abbrev Inv-loop : tie.InvT-loop
-Inv-loop gpus₀ owner m i₀ gpus i = (i ≤ 128) × (length (gpusOf gpus) ≡ 128) × (take i (gpusOf gpus) ++ map (freed owner) (drop i (gpusOf gpus)) ≡ map (freed owner) (gpusOf gpus₀))
+Inv-loop gpus₀ owner m i₀ gpus i = (i ≤ 128) × (length (gpusOf gpus) ≡ 128) ×
+    (take i (gpusOf gpus) ++ map (freed owner) (drop i (gpusOf gpus)) ≡ map (freed owner) (gpusOf gpus₀))
 
 abbrev μ-loop : tie.MeasureT-loop
 μ-loop gpus₀ owner m i₀ gpus i = 128 - i
@@ -44,13 +45,30 @@ loop-less : tie.Need-loop-less Inv-loop μ-loop
 loop-less c = omega (arith, c .before .before .before .before .before .gpu-places .ensures .0)
 
 loop-again : tie.Need-loop-again Inv-loop μ-loop
-loop-again c = ⊎-elim
-    (λ w. (omega (arith, c .before .before .before .before .before .gpu-places .ensures .0), set-long (gpusOf (c .before .before .before .before .loop .gpus)) _ (c .before .before .before .before .loop .i) _ (ap gpusOf (w .6) ∙ w .5 .ensures) (c .before .before .before .before .loop .inv .1), free-turn (gpusOf (c .before .before .before .before .loop .gpus)) _ _ (c .before .before .before .before .loop .i) (c .before .before .before .before .before .before .before .args .owner) (w .3 .result) (w .4 .result) (omega (arith, c .before .before .before .before .before .gpu-places .ensures .0)) (w .3 .ensures) (w .4 .ensures) (ap gpusOf (w .6) ∙ w .5 .ensures) (c .before .before .before .before .loop .inv .2)))
-    (λ w. (omega (arith, c .before .before .before .before .before .gpu-places .ensures .0), rw (w .1) (c .before .before .before .before .loop .inv .1), rw (w .1) (free-pass (c .before .before .before .before .loop .gpus) _ (c .before .before .before .before .loop .i) (c .before .before .before .before .before .before .before .args .owner) (omega (arith, c .before .before .before .before .before .gpu-places .ensures .0)) (sym (c .before .may-hold .ensures) ∙ w .0 .left) (c .before .before .before .before .loop .inv .2))))
+loop-again c =
+    let here = c .before .before .before .before .loop in
+    let gpu-places = c .before .before .before .before .before .gpu-places in
+    let start = c .before .before .before .before .before .before .before .args in
+    ⊎-elim
+    (λ w. (
+      omega (arith, gpu-places .ensures .0),
+      set-long (gpusOf (here .gpus)) _ (here .i) _ (ap gpusOf (w .6) ∙ w .5 .ensures) (here .inv .1),
+      free-turn (gpusOf (here .gpus)) _ _ (here .i) (start .owner) (w .3 .result) (w .4 .result) (omega (arith, gpu-places .ensures .0))
+          (w .3 .ensures) (w .4 .ensures) (ap gpusOf (w .6) ∙ w .5 .ensures) (here .inv .2),
+    ))
+    (λ w. (
+      omega (arith, gpu-places .ensures .0),
+      rw (w .1) (here .inv .1),
+      rw (w .1) (free-pass (here .gpus) _ (here .i) (start .owner) (omega (arith, gpu-places .ensures .0))
+          (sym (c .before .may-hold .ensures) ∙ w .0 .left) (here .inv .2)),
+    ))
     (c .if1 .came)
 
 returns : tie.Need-returns Inv-loop μ-loop
-returns c = sym (map-end (freed (c .before .before .before .before .args .owner)) (gpusOf (c .before .loop .gpus)) (c .before .loop .i) (omega (arith, c .before .before .gpu-places .ensures .0))) ∙ c .before .loop .inv .2
+returns c =
+    let here = c .before .loop in
+    let start = c .before .before .before .before .args in
+    sym (map-end (freed (start .owner)) (gpusOf (here .gpus)) (here .i) (omega (arith, c .before .before .gpu-places .ensures .0))) ∙ here .inv .2
 
 pub free-all-spec : {M : Type 1} → statement M
 free-all-spec =

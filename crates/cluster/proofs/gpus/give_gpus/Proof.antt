@@ -2,7 +2,7 @@
 use borrow.Author.Needs.{needs}
 use Rattle.cluster.specs.Gpus.{given, given-start, given-turn, given-done}
 use Rattle.rows.specs.Gpu.{gpusOf}
-use lib.ListN.{take, drop}
+use lib.ListN.{length, take, drop}
 use mathlib.Core.Path.{_≡_, _∙_}
 use native.Mathlib.Omega.{arith}
 use Prim.Native.Nat.{_≤_, _-_}
@@ -46,10 +46,26 @@ loop-less : tie.Need-loop-less Inv-loop μ-loop
 loop-less c = omega arith
 
 loop-again : tie.Need-loop-again Inv-loop μ-loop
-loop-again c = (omega arith, omega arith, given-turn (c .before .before .before .before .before .before .before .before .before .args .owner) (gpusOf (c .before .before .before .before .before .before .before .loop .gpus)) (c .before .before .before .before .before .before .before .before .before .args .t2) (c .before .before .before .before .before .before .before .before .lesser .result) (c .before .before .before .before .before .before .before .loop .i) (c .before .before .before .before .before .wide-id .result) (gpusOf (c .write-gpu .last .0)) _ (c .before .before .read-gpu .result) (c .before .with-owner .result) (omega arith) (omega arith) (c .before .before .before .before .before .wide-id .ensures) (c .before .before .read-gpu .ensures) (c .before .with-owner .ensures) (c .write-gpu .ensures) (c .before .before .before .before .before .before .before .loop .inv .2))
+loop-again c =
+    let lesser = c .before .before .before .before .before .before .before .before .lesser in
+    let start = c .before .before .before .before .before .before .before .before .before .args in
+    let small : lesser .result ≤ length (start .t2) = omega arith in
+    let with-owner = c .before .with-owner in
+    let read-gpu = c .before .before .read-gpu in
+    let wide-id = c .before .before .before .before .before .wide-id in
+    let here = c .before .before .before .before .before .before .before .loop in (
+      omega arith,
+      omega arith,
+      given-turn (start .owner) (gpusOf (here .gpus)) (start .t2) (lesser .result) (here .i) (wide-id .result)
+          (gpusOf (c .write-gpu .last .0)) _ (read-gpu .result) (with-owner .result) (omega arith) small (wide-id .ensures) (read-gpu .ensures)
+          (with-owner .ensures) (c .write-gpu .ensures) (here .inv .2),
+    )
 
 returns : tie.Need-returns Inv-loop μ-loop
-returns c = given-done (c .before .before .before .args .owner) (gpusOf (c .before .loop .gpus)) (c .before .before .before .args .t2) (c .before .before .lesser .result) (c .before .loop .i) (omega arith) (omega arith) ∙ c .before .loop .inv .2
+returns c =
+    let here = c .before .loop in
+    let start = c .before .before .before .args in
+    given-done (start .owner) (gpusOf (here .gpus)) (start .t2) (c .before .before .lesser .result) (here .i) (omega arith) (omega arith) ∙ here .inv .2
 
 pub give-gpus-spec : {M : Type 1} → statement M
 give-gpus-spec =

@@ -43,10 +43,19 @@ loop-less : tie.Need-loop-less Inv-loop μ-loop
 loop-less c = omega arith
 
 loop-again : tie.Need-loop-again Inv-loop μ-loop
-loop-again c = (omega arith, simp length-set (omega arith), rw (c .arrival-of .ensures, c .before .read-job .ensures) (read-turn arrivalOf (jobsOf (c .before .before .before .before .before .args .jobs .now)) (c .before .before .before .loop .numbers) (c .before .before .before .loop .i) noJob (omega arith) (omega arith) ∙ c .before .before .before .loop .inv .2))
+loop-again c =
+    let here = c .before .before .before .loop in
+    let start = c .before .before .before .before .before .args in (
+      omega arith,
+      simp length-set (omega arith),
+      rw (c .arrival-of .ensures, c .before .read-job .ensures)
+          (read-turn arrivalOf (jobsOf (start .jobs .now)) (here .numbers) (here .i) noJob (omega arith) (omega arith) ∙ here .inv .2),
+    )
 
 returns : tie.Need-returns Inv-loop μ-loop
-returns c = read-end arrivalOf (jobsOf (c .before .before .before .args .jobs .now)) (c .before .loop .numbers) (c .before .loop .i) (omega arith) (omega arith) ∙ c .before .loop .inv .2
+returns c =
+    let here = c .before .loop in
+    read-end arrivalOf (jobsOf (c .before .before .before .args .jobs .now)) (here .numbers) (here .i) (omega arith) (omega arith) ∙ here .inv .2
 
 pub arrivals-spec : {M : Type 1} → statement M
 arrivals-spec =

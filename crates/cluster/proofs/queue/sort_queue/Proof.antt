@@ -19,7 +19,10 @@ sort-front-requires : tie.Need-sort-front-requires
 sort-front-requires c κs = search needs
 
 returns-2 : tie.Need-returns-2
-returns-2 c = c .sort-front .ensures ∙ rw (c .before .before .before .arrivals .ensures, c .before .before .before .before .priorities .ensures) (queue-numbers (jobsOf (c .before .before .before .before .before .before .args .jobs .now)) (c .before .before .before .before .before .before .args .queue) (c .before .before .before .before .before .before .args .n))
+returns-2 c =
+    let priorities = c .before .before .before .before .priorities in
+    let start = c .before .before .before .before .before .before .args in
+    c .sort-front .ensures ∙ rw (c .before .before .before .arrivals .ensures, priorities .ensures) (queue-numbers (jobsOf (start .jobs .now)) (start .queue) (start .n))
 
 pub sort-queue-spec : {M : Type 1} → statement M
 sort-queue-spec =

@@ -15,7 +15,7 @@ either-requires c κs = search needs
 
 returns : tie.Need-returns
 unfolding holding
-returns c = cc
+returns c = rw (c .either .ensures, c .before .placed-in .ensures, c .before .before .runs-in .ensures)
 
 pub holds-spec : {M : Type 1} → statement M
 holds-spec = tie.close (tie.spec runs-in-requires placed-in-requires either-requires returns)

@@ -47,10 +47,23 @@ loop-less : tie.Need-loop-less Inv-loop μ-loop
 loop-less c = omega arith
 
 loop-again : tie.Need-loop-again Inv-loop μ-loop
-loop-again c = (omega arith, omega arith, omega arith, usage-turn (jobsOf (c .before .before .before .before .before .before .args .jobs .now)) (c .before .before .before .before .before .before .args .tenant) (c .before .before .before .loop .i) (c .before .before .before .loop .sum) (c .charge-to .result) noJob (omega arith) (c .before .before .before .loop .inv .3) (rw (← c .before .read-job .ensures) (c .charge-to .ensures)))
+loop-again c =
+    let here = c .before .before .before .loop in
+    let start = c .before .before .before .before .before .before .args in (
+      omega arith,
+      omega arith,
+      omega arith,
+      usage-turn (jobsOf (start .jobs .now)) (start .tenant) (here .i) (here .sum) (c .charge-to .result) noJob
+          (omega arith) (here .inv .3) (rw (← c .before .read-job .ensures) (c .charge-to .ensures)),
+    )
 
 returns : tie.Need-returns Inv-loop μ-loop
-returns c = c .before .loop .inv .3 ∙ usage-end (jobsOf (c .before .before .before .before .args .jobs .now)) (c .before .before .before .before .args .n) (c .before .before .before .before .args .tenant) (c .before .before .lesser .result) (c .before .loop .i) (c .before .before .lesser .ensures ∙ ap (min _) (c .before .before .before .job-places .ensures .0)) (omega arith) (omega arith)
+returns c =
+    let here = c .before .loop in
+    let lesser = c .before .before .lesser in
+    let start = c .before .before .before .before .args in
+    here .inv .3 ∙ usage-end (jobsOf (start .jobs .now)) (start .n) (start .tenant) (lesser .result) (here .i)
+    (lesser .ensures ∙ ap (min _) (c .before .before .before .job-places .ensures .0)) (omega arith) (omega arith)
 
 pub usage-spec : {M : Type 1} → statement M
 usage-spec =

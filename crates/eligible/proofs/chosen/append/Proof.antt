@@ -25,15 +25,20 @@ lesser-requires : tie.Need-lesser-requires Inv-loop μ-loop
 lesser-requires c κs = search needs
 
 sub-lesser : tie.Need-sub-lesser Inv-loop μ-loop
-sub-lesser c = omega (arith, held-front (c .before .before .before .first-of .result) (listOf (c .before .before .before .before .args .a)) (c .before .before .before .first-of .ensures) .0)
+sub-lesser c =
+    let first-of = c .before .before .before .first-of in
+    let start = c .before .before .before .before .args in
+    omega (arith, held-front (first-of .result) (listOf (start .a)) (first-of .ensures) .0)
 
 lesser-requires-2 : tie.Need-lesser-requires-2 Inv-loop μ-loop
 lesser-requires-2 c κs = search needs
 
 loop-holds : tie.Need-loop-holds Inv-loop μ-loop
 loop-holds c =
-    let f : c .before .before .before .before .first-of .result .count ≤ 128 = held-front (c .before .before .before .before .first-of .result) (listOf (c .before .before .before .before .before .args .a)) (c .before .before .before .before .first-of .ensures) .0 in
-    (omega arith, omega arith, omega arith, held (c .before .before .before .before .first-of .result) (take 128 (listOf (c .before .before .before .before .before .args .a))) (c .before .before .before .before .first-of .ensures) .1)
+    let first-of = c .before .before .before .before .first-of in
+    let start = c .before .before .before .before .before .args in
+    let f : first-of .result .count ≤ 128 = held-front (first-of .result) (listOf (start .a)) (first-of .ensures) .0 in
+    (omega arith, omega arith, omega arith, held (first-of .result) (take 128 (listOf (start .a))) (first-of .ensures) .1)
 
 mul-ids : tie.Need-mul-ids Inv-loop μ-loop
 mul-ids c = search needs
@@ -58,22 +63,35 @@ loop-less c = omega arith
 
 loop-again : tie.Need-loop-again Inv-loop μ-loop
 loop-again c =
-    let z : length (c .before .before .before .before .before .before .before .args .b .ids) ≡ 128 = search needs in
-    (omega arith, omega arith, omega arith, append-turn (c .before .loop .ids) (listOf (c .before .before .before .before .before .before .first-of .result)) (c .before .before .before .before .before .before .before .args .b .ids) (c .before .before .before .before .before .before .first-of .result .count) (c .before .loop .i) (held-front (c .before .before .before .before .before .before .first-of .result) (listOf (c .before .before .before .before .before .before .before .args .a)) (c .before .before .before .before .before .before .first-of .ensures) .1) (omega arith) (omega arith) (c .before .loop .inv .3))
+    let here = c .before .loop in
+    let first-of = c .before .before .before .before .before .before .first-of in
+    let start = c .before .before .before .before .before .before .before .args in
+    let z : length (start .b .ids) ≡ 128 = search needs in (
+      omega arith,
+      omega arith,
+      omega arith,
+      append-turn (here .ids) (listOf (first-of .result)) (start .b .ids) (first-of .result .count) (here .i)
+          (held-front (first-of .result) (listOf (start .a)) (first-of .ensures) .1) (omega arith) (omega arith) (here .inv .3),
+    )
 
 add-t9 : tie.Need-add-t9 Inv-loop μ-loop
 add-t9 c = search needs
 
 returns : tie.Need-returns Inv-loop μ-loop
 returns c =
-    let z : length (c .before .before .before .before .before .before .before .args .b .ids) ≡ 128 = search needs in
-    let y : length (c .before .before .before .before .before .before .before .args .a .ids) ≡ 128 = search needs in
-    let f : c .before .before .before .before .before .before .first-of .result .count ≤ 128 = held-front (c .before .before .before .before .before .before .first-of .result) (listOf (c .before .before .before .before .before .before .before .args .a)) (c .before .before .before .before .before .before .first-of .ensures) .0 in
-    let i : c .before .loop .i ≡ c .before .before .lesser2 .result = omega arith in
-    let m : c .before .before .lesser2 .result ≡ min (min (c .before .before .before .before .before .before .before .args .b .count) 128) (128 - c .before .before .before .before .before .before .first-of .result .count) = omega arith in
-    let e : listOf (c .before .before .before .before .before .before .first-of .result) ≡ listOf (c .before .before .before .before .before .before .before .args .a) =
-    held (c .before .before .before .before .before .before .first-of .result) (take 128 (listOf (c .before .before .before .before .before .before .before .args .a))) (c .before .before .before .before .before .before .first-of .ensures) .0 ∙ take-all 128 (listOf (c .before .before .before .before .before .before .before .args .a)) (held-length (c .before .before .before .before .before .before .before .args .a) y) in
-    append-done (c .before .loop .ids) (listOf (c .before .before .before .before .before .before .first-of .result)) (c .before .before .before .before .before .before .before .args .b .ids) (c .before .before .before .before .before .before .before .args .b .count) (c .before .before .lesser2 .result) (c .before .before .before .before .before .before .first-of .result .count) z (held-front (c .before .before .before .before .before .before .first-of .result) (listOf (c .before .before .before .before .before .before .before .args .a)) (c .before .before .before .before .before .before .first-of .ensures) .1) f m (rw i at (c .before .loop .inv .3)) ∙ rw e
+    let here = c .before .loop in
+    let lesser2 = c .before .before .lesser2 in
+    let first-of = c .before .before .before .before .before .before .first-of in
+    let start = c .before .before .before .before .before .before .before .args in
+    let z : length (start .b .ids) ≡ 128 = search needs in
+    let y : length (start .a .ids) ≡ 128 = search needs in
+    let f : first-of .result .count ≤ 128 = held-front (first-of .result) (listOf (start .a)) (first-of .ensures) .0 in
+    let i : here .i ≡ lesser2 .result = omega arith in
+    let m : lesser2 .result ≡ min (min (start .b .count) 128) (128 - first-of .result .count) = omega arith in
+    let e : listOf (first-of .result) ≡ listOf (start .a) =
+    held (first-of .result) (take 128 (listOf (start .a))) (first-of .ensures) .0 ∙ take-all 128 (listOf (start .a)) (held-length (start .a) y) in
+    append-done (here .ids) (listOf (first-of .result)) (start .b .ids) (start .b .count) (lesser2 .result) (first-of .result .count) z
+    (held-front (first-of .result) (listOf (start .a)) (first-of .ensures) .1) f m (rw i at (here .inv .3)) ∙ rw e
 
 pub append-spec : {M : Type 1} → statement M
 append-spec =

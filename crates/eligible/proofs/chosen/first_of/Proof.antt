@@ -47,15 +47,20 @@ loop-less c = omega arith
 
 loop-again : tie.Need-loop-again Inv-loop μ-loop
 loop-again c =
-    let z : length (c .before .before .before .before .before .before .args .e .ids) ≡ 128 = search needs in
-    (omega arith, omega arith, copy-turn (c .before .loop .ids) (c .before .before .before .before .before .before .args .e .ids) (c .before .loop .i) (omega arith) (omega arith) (c .before .loop .inv .2))
+    let here = c .before .loop in
+    let start = c .before .before .before .before .before .before .args in
+    let z : length (start .e .ids) ≡ 128 = search needs in
+    (omega arith, omega arith, copy-turn (here .ids) (start .e .ids) (here .i) (omega arith) (omega arith) (here .inv .2))
 
 returns : tie.Need-returns Inv-loop μ-loop
 returns c =
-    let z : length (c .before .before .before .before .before .before .args .e .ids) ≡ 128 = search needs in
-    let i : c .before .loop .i ≡ c .before .before .before .lesser2 .result = omega arith in
-    let e : c .before .before .before .lesser2 .result ≡ min (min (c .before .before .before .before .before .before .args .e .count) 128) (c .before .before .before .before .before .before .args .count) = omega arith in
-    copy-done (c .before .loop .ids) (c .before .before .before .before .before .before .args .e .ids) (c .before .before .before .lesser2 .result) (c .before .before .before .before .before .before .args .e .count) (c .before .before .before .before .before .before .args .count) z e (rw i at (c .before .loop .inv .2))
+    let here = c .before .loop in
+    let lesser2 = c .before .before .before .lesser2 in
+    let start = c .before .before .before .before .before .before .args in
+    let z : length (start .e .ids) ≡ 128 = search needs in
+    let i : here .i ≡ lesser2 .result = omega arith in
+    let e : lesser2 .result ≡ min (min (start .e .count) 128) (start .count) = omega arith in
+    copy-done (here .ids) (start .e .ids) (lesser2 .result) (start .e .count) (start .count) z e (rw i at (here .inv .2))
 
 pub first-of-spec : {M : Type 1} → statement M
 first-of-spec =

@@ -5,7 +5,7 @@ use Prim.Native.Nat.{_-_, _≤_}
 use native.Mathlib.Omega.{arith}
 use lib.ListN.{length, take}
 use Rattle.eligible.specs.Chosen.{tallyOf, listOf}
-use Rattle.eligible.specs.More.{take-least}
+use Rattle.laws.specs.Tables.{take-least}
 use Rattle.eligible.specs.Turns.{tally-none, tally-in, tally-out, tally-small}
 use borrow.Author.Needs.{needs}
 use Rattle.eligible.proofs.chosen.tally.Statement.{statement}
@@ -45,7 +45,10 @@ array-read-t : tie.Need-array-read-t Inv-loop μ-loop
 array-read-t c = search needs
 
 add-t : tie.Need-add-t Inv-loop μ-loop
-add-t c = record { fits = omega (arith, tally-small (c .before .before .before .before .before .before .before .args .keys) (c .before .before .before .before .before .before .before .args .e .ids) (c .before .before .before .loop .t) (c .before .before .before .loop .i) (c .before .key-at .result) (omega arith) (c .before .before .before .loop .inv .2)) }
+add-t c =
+    let here = c .before .before .before .loop in
+    let start = c .before .before .before .before .before .before .before .args in
+    record { fits = omega (arith, tally-small (start .keys) (start .e .ids) (here .t) (here .i) (c .before .key-at .result) (omega arith) (here .inv .2)) }
 
 mul-t-2 : tie.Need-mul-t-2 Inv-loop μ-loop
 mul-t-2 c = search needs
@@ -61,22 +64,28 @@ loop-less c = omega arith
 
 loop-again : tie.Need-loop-again Inv-loop μ-loop
 loop-again c =
-    let z : length (c .before .before .before .before .before .before .before .args .e .ids) ≡ 128 = search needs in (
+    let key-at = c .before .key-at in
+    let here = c .before .before .before .loop in
+    let start = c .before .before .before .before .before .before .before .args in
+    let z : length (start .e .ids) ≡ 128 = search needs in (
       omega arith,
       omega arith,
       ⊎-elim
-          (λ w. rw (w .1) (tally-in (c .before .before .before .before .before .before .before .args .keys) (c .before .before .before .before .before .before .before .args .e .ids) (c .before .before .before .loop .i) (omega arith) (c .before .before .before .loop .t) (c .before .key-at .result) (c .before .key-at .ensures) (w .0 .taken) (c .before .before .before .loop .inv .2)))
-          (λ w. rw (w .1) (tally-out (c .before .before .before .before .before .before .before .args .keys) (c .before .before .before .before .before .before .before .args .e .ids) (c .before .before .before .loop .i) (omega arith) (c .before .before .before .loop .t) (c .before .key-at .result) (c .before .key-at .ensures) (w .0 .left) (c .before .before .before .loop .inv .2)))
+          (λ w. rw (w .1) (tally-in (start .keys) (start .e .ids) (here .i) (omega arith) (here .t) (key-at .result) (key-at .ensures) (w .0 .taken) (here .inv .2)))
+          (λ w. rw (w .1) (tally-out (start .keys) (start .e .ids) (here .i) (omega arith) (here .t) (key-at .result) (key-at .ensures) (w .0 .left) (here .inv .2)))
           (c .if1 .came),
     )
 
 returns : tie.Need-returns Inv-loop μ-loop
 returns c =
-    let z : length (c .before .before .before .before .before .args .e .ids) ≡ 128 = search needs in
-    let i : c .before .loop .i ≡ c .before .before .before .lesser .result = omega arith in
-    let e : take (c .before .loop .i) (c .before .before .before .before .before .args .e .ids) ≡ listOf (c .before .before .before .before .before .args .e) =
-    rw (i, c .before .before .before .lesser .ensures) (take-least (c .before .before .before .before .before .args .e .count) 128 (c .before .before .before .before .before .args .e .ids) (omega arith)) in
-    rw e at (c .before .loop .inv .2)
+    let here = c .before .loop in
+    let lesser = c .before .before .before .lesser in
+    let start = c .before .before .before .before .before .args in
+    let z : length (start .e .ids) ≡ 128 = search needs in
+    let i : here .i ≡ lesser .result = omega arith in
+    let e : take (here .i) (start .e .ids) ≡ listOf (start .e) =
+    rw (i, lesser .ensures) (take-least (start .e .count) 128 (start .e .ids) (omega arith)) in
+    rw e at (here .inv .2)
 
 pub tally-spec : {M : Type 1} → statement M
 tally-spec =

@@ -6,7 +6,7 @@ use native.Mathlib.Omega.{arith}
 use lib.ListN.{length, take}
 use Rattle.eligible.specs.Chosen.{withKey, listOf}
 use Rattle.laws.specs.Sort.{only}
-use Rattle.eligible.specs.More.{take-least}
+use Rattle.laws.specs.Tables.{take-least}
 use Rattle.eligible.specs.Turns.{Kept, kept-none, kept-done, kept-size, with-take, with-skip}
 use borrow.Author.Needs.{needs}
 use Rattle.eligible.proofs.chosen.with_key.Statement.{statement}
@@ -54,21 +54,29 @@ loop-less c = omega arith
 
 loop-again : tie.Need-loop-again Inv-loop μ-loop
 loop-again c =
-    let z : length (c .before .before .before .before .before .before .before .args .e .ids) ≡ 128 = search needs in
-    let f : Kept (c .if1 .ids) (c .if1 .k) (withKey (c .before .before .before .before .before .before .before .args .keys) (c .before .before .before .before .before .before .before .args .key) (take (c .before .before .before .loop .i + 1) (c .before .before .before .before .before .before .before .args .e .ids))) =
+    let key-at = c .before .key-at in
+    let here = c .before .before .before .loop in
+    let start = c .before .before .before .before .before .before .before .args in
+    let z : length (start .e .ids) ≡ 128 = search needs in
+    let f : Kept (c .if1 .ids) (c .if1 .k) (withKey (start .keys) (start .key) (take (here .i + 1) (start .e .ids))) =
     ⊎-elim
-    (λ w. rw (w .1, w .2) (with-take (c .before .before .before .before .before .before .before .args .keys) (c .before .before .before .before .before .before .before .args .key) (c .before .before .before .before .before .before .before .args .e .ids) (c .before .before .before .loop .i) (omega arith) (omega arith) _ _ (sym (c .before .key-at .ensures) ∙ w .0 .taken) (c .before .before .before .loop .inv .3)))
-    (λ w. rw (w .1, w .2) (with-skip (c .before .before .before .before .before .before .before .args .keys) (c .before .before .before .before .before .before .before .args .key) (c .before .before .before .before .before .before .before .args .e .ids) (c .before .before .before .loop .i) (omega arith) (omega arith) _ _ (λ e. w .0 .left (c .before .key-at .ensures ∙ e)) (c .before .before .before .loop .inv .3)))
+    (λ w. rw (w .1, w .2) (with-take (start .keys) (start .key) (start .e .ids) (here .i) (omega arith) (omega arith) _ _
+    (sym (key-at .ensures) ∙ w .0 .taken) (here .inv .3)))
+    (λ w. rw (w .1, w .2) (with-skip (start .keys) (start .key) (start .e .ids) (here .i) (omega arith) (omega arith) _ _
+    (λ e. w .0 .left (key-at .ensures ∙ e)) (here .inv .3)))
     (c .if1 .came) in
-    (omega arith, omega arith, kept-size _ _ (c .before .before .before .before .before .before .before .args .keys) (c .before .before .before .before .before .before .before .args .key) (c .before .before .before .loop .i + 1) (c .before .before .before .before .before .before .before .args .e .ids) f, f)
+    (omega arith, omega arith, kept-size _ _ (start .keys) (start .key) (here .i + 1) (start .e .ids) f, f)
 
 returns : tie.Need-returns Inv-loop μ-loop
 returns c =
-    let z : length (c .before .before .before .before .before .args .e .ids) ≡ 128 = search needs in
-    let i : c .before .loop .i ≡ c .before .before .before .lesser .result = omega arith in
-    let e : take (c .before .loop .i) (c .before .before .before .before .before .args .e .ids) ≡ listOf (c .before .before .before .before .before .args .e) =
-    rw (i, c .before .before .before .lesser .ensures) (take-least (c .before .before .before .before .before .args .e .count) 128 (c .before .before .before .before .before .args .e .ids) (omega arith)) in
-    kept-done _ _ _ (c .before .loop .inv .3) ∙ rw e
+    let here = c .before .loop in
+    let lesser = c .before .before .before .lesser in
+    let start = c .before .before .before .before .before .args in
+    let z : length (start .e .ids) ≡ 128 = search needs in
+    let i : here .i ≡ lesser .result = omega arith in
+    let e : take (here .i) (start .e .ids) ≡ listOf (start .e) =
+    rw (i, lesser .ensures) (take-least (start .e .count) 128 (start .e .ids) (omega arith)) in
+    kept-done _ _ _ (here .inv .3) ∙ rw e
 
 pub with-key-spec : {M : Type 1} → statement M
 with-key-spec =

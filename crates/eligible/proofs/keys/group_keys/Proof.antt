@@ -44,11 +44,17 @@ loop-less : tie.Need-loop-less Inv-loop μ-loop
 loop-less c = omega arith
 
 loop-again : tie.Need-loop-again Inv-loop μ-loop
-loop-again c = (omega arith, rw (c .read-gpu .ensures) (map-turn groupOf (c .before .before .loop .keys) (gpusOf (c .before .before .before .before .before .args .gpus .now)) (c .before .before .loop .i) noGpu (omega arith) (omega arith) (c .before .before .loop .inv .1)))
+loop-again c =
+    let here = c .before .before .loop in
+    let start = c .before .before .before .before .before .args in
+    (omega arith, rw (c .read-gpu .ensures) (map-turn groupOf (here .keys) (gpusOf (start .gpus .now)) (here .i) noGpu (omega arith) (omega arith) (here .inv .1)))
 
 returns : tie.Need-returns Inv-loop μ-loop
 unfolding groupKeys
-returns c = map-done groupOf (c .before .loop .keys) (gpusOf (c .before .before .before .before .args .gpus .now)) (c .before .loop .i) (omega arith) (omega arith) (c .before .loop .inv .1)
+returns c =
+    let here = c .before .loop in
+    let start = c .before .before .before .before .args in
+    map-done groupOf (here .keys) (gpusOf (start .gpus .now)) (here .i) (omega arith) (omega arith) (here .inv .1)
 
 pub group-keys-spec : {M : Type 1} → statement M
 group-keys-spec =

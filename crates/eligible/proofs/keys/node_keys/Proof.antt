@@ -47,11 +47,17 @@ loop-less : tie.Need-loop-less Inv-loop μ-loop
 loop-less c = omega arith
 
 loop-again : tie.Need-loop-again Inv-loop μ-loop
-loop-again c = (omega arith, rw (c .before .read-gpu .ensures) (map-turn nodeOf (c .before .before .before .loop .keys) (gpusOf (c .before .before .before .before .before .before .args .gpus .now)) (c .before .before .before .loop .i) noGpu (omega arith) (omega arith) (c .before .before .before .loop .inv .1)))
+loop-again c =
+    let here = c .before .before .before .loop in
+    let start = c .before .before .before .before .before .before .args in
+    (omega arith, rw (c .before .read-gpu .ensures) (map-turn nodeOf (here .keys) (gpusOf (start .gpus .now)) (here .i) noGpu (omega arith) (omega arith) (here .inv .1)))
 
 returns : tie.Need-returns Inv-loop μ-loop
 unfolding nodeKeys
-returns c = map-done nodeOf (c .before .loop .keys) (gpusOf (c .before .before .before .before .args .gpus .now)) (c .before .loop .i) (omega arith) (omega arith) (c .before .loop .inv .1)
+returns c =
+    let here = c .before .loop in
+    let start = c .before .before .before .before .args in
+    map-done nodeOf (here .keys) (gpusOf (start .gpus .now)) (here .i) (omega arith) (omega arith) (here .inv .1)
 
 pub node-keys-spec : {M : Type 1} → statement M
 node-keys-spec =

@@ -59,12 +59,18 @@ loop-less c = omega arith
 
 loop-again : tie.Need-loop-again Inv-loop μ-loop
 loop-again c =
-    let t : mayTake (gpusOf (c .before .before .before .before .before .before .before .before .before .args .gpus .now)) (c .before .before .before .before .before .before .before .before .before .args .sites) (c .before .before .before .before .before .before .before .before .before .args .ask) (c .before .before .before .before .before .before .loop .i) ≡ c .before .eligible-gpu .result =
-    may-is (gpusOf (c .before .before .before .before .before .before .before .before .before .args .gpus .now)) (c .before .before .before .before .before .before .before .before .before .args .sites) (c .before .before .before .before .before .before .before .before .before .args .ask) (c .before .before .before .before .before .before .loop .i) (c .before .before .site-at .result) (c .before .before .before .before .read-gpu .result) _ (c .before .before .before .before .read-gpu .ensures) (c .before .before .site-at .ensures) (c .before .eligible-gpu .ensures) in
-    let f : Kept (c .if1 .ids) (c .if1 .k) (those (mayTake (gpusOf (c .before .before .before .before .before .before .before .before .before .args .gpus .now)) (c .before .before .before .before .before .before .before .before .before .args .sites) (c .before .before .before .before .before .before .before .before .before .args .ask)) (c .before .before .before .before .before .before .loop .i + 1) 0) =
+    let eligible-gpu = c .before .eligible-gpu in
+    let site-at = c .before .before .site-at in
+    let read-gpu = c .before .before .before .before .read-gpu in
+    let here = c .before .before .before .before .before .before .loop in
+    let start = c .before .before .before .before .before .before .before .before .before .args in
+    let t : mayTake (gpusOf (start .gpus .now)) (start .sites) (start .ask) (here .i) ≡ eligible-gpu .result =
+    may-is (gpusOf (start .gpus .now)) (start .sites) (start .ask) (here .i) (site-at .result) (read-gpu .result) _ (read-gpu .ensures)
+    (site-at .ensures) (eligible-gpu .ensures) in
+    let f : Kept (c .if1 .ids) (c .if1 .k) (those (mayTake (gpusOf (start .gpus .now)) (start .sites) (start .ask)) (here .i + 1) 0) =
     ⊎-elim
-    (λ w. rw (w .1, w .2) (those-turn-take _ _ _ _ (omega arith) (t ∙ w .0 .taken) (c .before .before .before .before .before .before .loop .inv .3)))
-    (λ w. rw (w .1, w .2) (those-turn-skip _ _ _ _ (t ∙ w .0 .left) (c .before .before .before .before .before .before .loop .inv .3)))
+    (λ w. rw (w .1, w .2) (those-turn-take _ _ _ _ (omega arith) (t ∙ w .0 .taken) (here .inv .3)))
+    (λ w. rw (w .1, w .2) (those-turn-skip _ _ _ _ (t ∙ w .0 .left) (here .inv .3)))
     (c .if1 .came) in
     (omega arith, omega arith, those-size _ _ _ _ f, f)
 

@@ -16,10 +16,22 @@ settle-requires : tie.Need-settle-requires
 settle-requires c κs = search needs
 
 returns : tie.Need-returns
-returns c = found-goes (wholePlan (c .before .before .before .before .before .before .before .before .before .before .before .before .args .rest) (c .before .before .before .before .before .before .before .before .before .before .before .before .args .gpus .now) (c .before .before .before .before .before .before .before .before .before .before .before .before .args .jobs .now) (c .before .before .before .before .before .before .before .before .before .before .before .before .args .room .now)) (c .before .before .before .before .before .before .before .before .before .before .before .before .args .next) _ (happened-lent (c .before .before .before .before .before .before .before .before .before .before .before .before .args .rest) (c .before .before .before .before .before .before .before .before .before .before .before .before .args .next) (c .before .before .before .before .before .before .before .before .before .before .before .before .args .gpus .now) (c .before .before .before .before .before .before .before .before .before .before .before .before .args .jobs .now) (c .before .before .before .before .before .before .before .before .before .before .before .before .args .room .now) (c .before .before .before .before .before .before .before .before .before .take-event .last .0) _ (c .before .before .before .before .before .before .before .before .before .take-event .ensures) (c .before .before .before .before .before .happen-as .ensures)) _ (c .before .before .before .before .if1 .taken) (c .settle .ensures)
+returns c =
+    let if1 = c .before .before .before .before .if1 in
+    let happen-as = c .before .before .before .before .before .happen-as in
+    let take-event = c .before .before .before .before .before .before .before .before .before .take-event in
+    let start = c .before .before .before .before .before .before .before .before .before .before .before .before .args in
+    found-goes (wholePlan (start .rest) (start .gpus .now) (start .jobs .now) (start .room .now)) (start .next) _
+    (happened-lent (start .rest) (start .next) (start .gpus .now) (start .jobs .now) (start .room .now) (take-event .last .0) _
+    (take-event .ensures) (happen-as .ensures)) _ (if1 .taken) (c .settle .ensures)
 
 returns-2 : tie.Need-returns-2
-returns-2 c = found-stays (wholePlan (c .before .before .before .before .before .before .before .before .args .rest) (c .before .before .before .before .before .before .before .before .args .gpus .now) (c .before .before .before .before .before .before .before .before .args .jobs .now) (c .before .before .before .before .before .before .before .before .args .room .now)) (c .before .before .before .before .before .before .before .before .args .next) _ (happened-lent (c .before .before .before .before .before .before .before .before .args .rest) (c .before .before .before .before .before .before .before .before .args .next) (c .before .before .before .before .before .before .before .before .args .gpus .now) (c .before .before .before .before .before .before .before .before .args .jobs .now) (c .before .before .before .before .before .before .before .before .args .room .now) (c .before .before .before .before .before .take-event .last .0) _ (c .before .before .before .before .before .take-event .ensures) (c .before .happen-as .ensures)) (c .if1 .left)
+returns-2 c =
+    let take-event = c .before .before .before .before .before .take-event in
+    let start = c .before .before .before .before .before .before .before .before .args in
+    found-stays (wholePlan (start .rest) (start .gpus .now) (start .jobs .now) (start .room .now)) (start .next) _
+    (happened-lent (start .rest) (start .next) (start .gpus .now) (start .jobs .now) (start .room .now) (take-event .last .0) _
+    (take-event .ensures) (c .before .happen-as .ensures)) (c .if1 .left)
 
 pub advance-spec : {M : Type 1} → statement M
 advance-spec =

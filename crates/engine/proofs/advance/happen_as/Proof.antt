@@ -31,16 +31,28 @@ on-timeout-requires : tie.Need-on-timeout-requires
 on-timeout-requires c κs = search needs
 
 returns : tie.Need-returns
-returns c = happened-as Empty (wholePlan (c .before .before .before .args .rest) (c .before .before .before .args .gpus .now) (c .before .before .before .args .jobs .now) (c .before .before .before .args .room .now)) (c .before .before .before .args .e) _ (c .before .enum-told .given .1) (c .nothing .ensures (c .before .before .before .args .gpus .now) (c .before .before .before .args .jobs .now) (c .before .before .before .args .room .now))
+returns c =
+    let start = c .before .before .before .args in
+    happened-as Empty (wholePlan (start .rest) (start .gpus .now) (start .jobs .now) (start .room .now)) (start .e) _
+    (c .before .enum-told .given .1) (c .nothing .ensures (start .gpus .now) (start .jobs .now) (start .room .now))
 
 returns-2 : tie.Need-returns-2
-returns-2 c = happened-as Arrival (wholePlan (c .before .before .before .before .before .args .rest) (c .before .before .before .before .before .args .gpus .now) (c .before .before .before .before .before .args .jobs .now) (c .before .before .before .before .before .args .room .now)) (c .before .before .before .before .before .args .e) _ (c .before .before .before .enum-told2 .given .1) (c .on-arrival .ensures (c .before .before .before .before .before .args .gpus .now))
+returns-2 c =
+    let start = c .before .before .before .before .before .args in
+    happened-as Arrival (wholePlan (start .rest) (start .gpus .now) (start .jobs .now) (start .room .now)) (start .e) _
+    (c .before .before .before .enum-told2 .given .1) (c .on-arrival .ensures (start .gpus .now))
 
 returns-3 : tie.Need-returns-3
-returns-3 c = happened-as Completion (wholePlan (c .before .before .before .before .before .args .rest) (c .before .before .before .before .before .args .gpus .now) (c .before .before .before .before .before .args .jobs .now) (c .before .before .before .before .before .args .room .now)) (c .before .before .before .before .before .args .e) _ (c .before .before .before .enum-told3 .given .1) (c .on-completion .ensures (c .before .before .before .before .before .args .room .now))
+returns-3 c =
+    let start = c .before .before .before .before .before .args in
+    happened-as Completion (wholePlan (start .rest) (start .gpus .now) (start .jobs .now) (start .room .now)) (start .e) _
+    (c .before .before .before .enum-told3 .given .1) (c .on-completion .ensures (start .room .now))
 
 returns-4 : tie.Need-returns-4
-returns-4 c = happened-as Timeout (wholePlan (c .before .before .before .before .args .rest) (c .before .before .before .before .args .gpus .now) (c .before .before .before .before .args .jobs .now) (c .before .before .before .before .args .room .now)) (c .before .before .before .before .args .e) _ (c .before .before .enum-told4 .given .1) (c .on-timeout .ensures (c .before .before .before .before .args .gpus .now) (c .before .before .before .before .args .room .now))
+returns-4 c =
+    let start = c .before .before .before .before .args in
+    happened-as Timeout (wholePlan (start .rest) (start .gpus .now) (start .jobs .now) (start .room .now)) (start .e) _
+    (c .before .before .enum-told4 .given .1) (c .on-timeout .ensures (start .gpus .now) (start .room .now))
 
 pub happen-as-spec : {M : Type 1} → statement M
 happen-as-spec =

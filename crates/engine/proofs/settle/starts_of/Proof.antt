@@ -11,7 +11,12 @@ begin-all-requires : tie.Need-begin-all-requires
 begin-all-requires c κs = search needs
 
 returns : tie.Need-returns
-returns c = λ was gpus. starts-lent (c .before .before .before .before .before .before .before .before .before .before .before .before .before .args .rest) (c .before .before .before .before .before .before .before .before .before .before .before .before .before .args .pass) was gpus (c .before .before .before .before .before .before .before .before .before .before .before .before .before .args .jobs .now) (c .before .before .before .before .before .before .before .before .before .before .before .before .before .args .room .now) (c .before .before .before .queue-timeouts .last .0) (c .before .before .before .queue-timeouts .result) _ (c .before .before .before .queue-timeouts .ensures) (c .begin-all .ensures)
+returns c =
+    let queue-timeouts = c .before .before .before .queue-timeouts in
+    let back = c .before .before .before .before .before .before .before .before .before .before in
+    let start = back .before .before .before .args in
+    λ was gpus. starts-lent (start .rest) (start .pass) was gpus (start .jobs .now) (start .room .now) (queue-timeouts .last .0)
+    (queue-timeouts .result) _ (queue-timeouts .ensures) (c .begin-all .ensures)
 
 pub starts-of-spec : {M : Type 1} → statement M
 starts-of-spec = tie.close (tie.spec queue-timeouts-requires begin-all-requires returns)

@@ -21,7 +21,13 @@ take-these-requires : tie.Need-take-these-requires
 take-these-requires c κs = search needs
 
 returns : tie.Need-returns
-returns c = best-one _ _ _ _ (c .before .before .before .with-key .result) (c .before .first-of .result) _ (c .before .before .before .before .best-node .ensures ∙ rw (c .before .before .before .before .before .before .tally .ensures)) (c .before .before .before .with-key .ensures) (c .before .before .if1 .taken) (c .before .first-of .ensures) (c .take-these .ensures)
+returns c =
+    let first-of = c .before .first-of in
+    let with-key = c .before .before .before .with-key in
+    let best-node = c .before .before .before .before .best-node in
+    let tally = c .before .before .before .before .before .before .tally in
+    best-one _ _ _ _ (with-key .result) (first-of .result) _ (best-node .ensures ∙ rw (tally .ensures)) (with-key .ensures)
+    (c .before .before .if1 .taken) (first-of .ensures) (c .take-these .ensures)
 
 fullest-first-requires : tie.Need-fullest-first-requires
 fullest-first-requires c κs = search needs
@@ -30,7 +36,13 @@ take-these-requires-2 : tie.Need-take-these-requires-2
 take-these-requires-2 c κs = search needs
 
 returns-2 : tie.Need-returns-2
-returns-2 c = best-none _ _ _ _ (c .before .before .before .with-key .result) (c .before .fullest-first .result) _ (c .before .before .before .before .best-node .ensures ∙ rw (c .before .before .before .before .before .before .tally .ensures)) (c .before .before .before .with-key .ensures) (c .before .before .if1 .left) (c .before .fullest-first .ensures) (c .take-these2 .ensures)
+returns-2 c =
+    let fullest-first = c .before .fullest-first in
+    let with-key = c .before .before .before .with-key in
+    let best-node = c .before .before .before .before .best-node in
+    let tally = c .before .before .before .before .before .before .tally in
+    best-none _ _ _ _ (with-key .result) (fullest-first .result) _ (best-node .ensures ∙ rw (tally .ensures)) (with-key .ensures)
+    (c .before .before .if1 .left) (fullest-first .ensures) (c .take-these2 .ensures)
 
 pub best-fit-spec : {M : Type 1} → statement M
 best-fit-spec =

@@ -33,16 +33,31 @@ loop-less c = omega arith
 
 loop-again : tie.Need-loop-again Inv-loop μ-loop
 loop-again c =
+    let here = c .before .before .before .before .loop in
+    let start = c .before .before .before .before .before .args in
     ⊎-elim
-    (λ w. (omega arith, omega arith, rw (w .1) (sym (argmin-take (leftOver (c .before .before .before .before .before .args .counts .now) (c .before .before .before .before .before .args .count)) 32 (c .before .before .before .before .loop .i) (c .before .before .before .before .loop .b) (omega arith) (omega arith)) ∙ c .before .before .before .before .loop .inv .2)))
-    (λ w. (omega arith, omega arith, rw (w .1) (sym (argmin-keep (leftOver (c .before .before .before .before .before .args .counts .now) (c .before .before .before .before .before .args .count)) 32 (c .before .before .before .before .loop .i) (c .before .before .before .before .loop .b) (omega arith) (omega arith)) ∙ c .before .before .before .before .loop .inv .2)))
+    (λ w. (
+      omega arith,
+      omega arith,
+      rw (w .1)
+          (sym (argmin-take (leftOver (start .counts .now) (start .count)) 32 (here .i) (here .b) (omega arith) (omega arith)) ∙ here .inv .2),
+    ))
+    (λ w. (
+      omega arith,
+      omega arith,
+      rw (w .1)
+          (sym (argmin-keep (leftOver (start .counts .now) (start .count)) 32 (here .i) (here .b) (omega arith) (omega arith)) ∙ here .inv .2),
+    ))
     (c .if1 .came)
 
 cast-result : tie.Need-cast-result Inv-loop μ-loop
 cast-result c = search needs
 
 returns : tie.Need-returns Inv-loop μ-loop
-returns c = sym (argmin-end (leftOver (c .before .before .args .counts .now) (c .before .before .args .count)) 32 (c .before .loop .i) (c .before .loop .b) (omega arith)) ∙ c .before .loop .inv .2
+returns c =
+    let here = c .before .loop in
+    let start = c .before .before .args in
+    sym (argmin-end (leftOver (start .counts .now) (start .count)) 32 (here .i) (here .b) (omega arith)) ∙ here .inv .2
 
 pub best-node-spec : {M : Type 1} → statement M
 best-node-spec =

@@ -17,16 +17,22 @@ rank-keys-requires c κs = search needs
 wide-keys-requires : tie.Need-wide-keys-requires
 wide-keys-requires c κs = search needs
 
-sort-by-requires : tie.Need-sort-by-requires
-sort-by-requires c κs = search needs
+sort-front-requires : tie.Need-sort-front-requires
+sort-front-requires c κs = search needs
 
 first-of-requires : tie.Need-first-of-requires
 first-of-requires c κs = search needs
 
 returns : tie.Need-returns
 returns c =
-    let e : take (c .before .before .before .before .before .before .before .args .e .count) (c .before .sort-by .result) ≡ fullestFirst (c .before .before .before .before .before .before .before .args .nodes) (listOf (c .before .before .before .before .before .before .before .args .e)) =
-    node-by-node (c .before .before .before .before .before .before .before .args .nodes) (c .before .before .before .before .before .before .before .args .e .ids) (c .before .before .before .rank-keys .result) (c .before .before .wide-keys .result) (c .before .before .before .before .before .tally .result) (c .before .sort-by .result) (c .before .before .before .before .before .before .before .args .e .count) (c .before .before .before .before .before .tally .ensures) (c .before .before .before .rank-keys .ensures) (c .before .before .wide-keys .ensures) (c .before .sort-by .ensures) in
+    let sorted = c .before .sort-front in
+    let second = c .before .before .before .before .wide-keys in
+    let first = c .before .before .before .before .before .rank-keys in
+    let counts = c .before .before .before .before .before .before .before .tally in
+    let start = c .before .before .before .before .before .before .before .before .before .args in
+    let e : take (start .e .count) (sorted .result) ≡ fullestFirst (start .nodes) (listOf (start .e)) =
+    node-by-node (start .nodes) (start .e .ids) (first .result) (second .result) (counts .result) (sorted .result) (start .e .count)
+    (counts .ensures) (first .ensures) (second .ensures) (sorted .ensures) in
     c .first-of .ensures ∙ rw e
 
 pub fullest-first-spec : {M : Type 1} → statement M
@@ -36,6 +42,6 @@ fullest-first-spec =
     tally-requires
     rank-keys-requires
     wide-keys-requires
-    sort-by-requires
+    sort-front-requires
     first-of-requires
     returns)

@@ -12,11 +12,15 @@ counted-at-requires c κs = search needs
 
 returns : tie.Need-returns
 unfolding leftOver
-returns c = rw (le-leb (c .before .before .before .args .count) (counted (c .before .before .before .args .counts .now) (c .before .before .before .args .k)) (omega arith), c .before .counted-at .ensures)
+returns c =
+    let start = c .before .before .before .args in
+    rw (le-leb (start .count) (counted (start .counts .now) (start .k)) (omega arith), c .before .counted-at .ensures)
 
 returns-2 : tie.Need-returns-2
 unfolding leftOver
-returns-2 c = rw (lt-leb (c .before .before .before .args .count) (counted (c .before .before .before .args .counts .now) (c .before .before .before .args .k)) (omega arith))
+returns-2 c =
+    let start = c .before .before .before .args in
+    rw (lt-leb (start .count) (counted (start .counts .now) (start .k)) (omega arith))
 
 pub left-over-spec : {M : Type 1} → statement M
 left-over-spec = tie.close (tie.spec counted-at-requires returns returns-2)

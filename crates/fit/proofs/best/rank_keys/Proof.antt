@@ -45,11 +45,17 @@ loop-less : tie.Need-loop-less Inv-loop μ-loop
 loop-less c = omega arith
 
 loop-again : tie.Need-loop-again Inv-loop μ-loop
-loop-again c = (omega arith, rw (c .rank-of .ensures) (map-turn (rank (c .before .before .before .before .args .counts .now)) (c .before .before .loop .keys) (c .before .before .before .before .args .t2) (c .before .before .loop .i) 0 (omega arith) (omega arith) (c .before .before .loop .inv .1)))
+loop-again c =
+    let here = c .before .before .loop in
+    let start = c .before .before .before .before .args in
+    (omega arith, rw (c .rank-of .ensures) (map-turn (rank (start .counts .now)) (here .keys) (start .t2) (here .i) 0 (omega arith) (omega arith) (here .inv .1)))
 
 returns : tie.Need-returns Inv-loop μ-loop
 unfolding rankKeys
-returns c = map-done (rank (c .before .before .before .args .counts .now)) (c .before .loop .keys) (c .before .before .before .args .t2) (c .before .loop .i) (search needs) (omega arith) (c .before .loop .inv .1)
+returns c =
+    let here = c .before .loop in
+    let start = c .before .before .before .args in
+    map-done (rank (start .counts .now)) (here .keys) (start .t2) (here .i) (search needs) (omega arith) (here .inv .1)
 
 pub rank-keys-spec : {M : Type 1} → statement M
 rank-keys-spec =

@@ -43,7 +43,10 @@ loop-less : tie.Need-loop-less Inv-loop μ-loop
 loop-less c = omega arith
 
 loop-again : tie.Need-loop-again Inv-loop μ-loop
-loop-again c = (omega arith, rw (c .wide .ensures) (copy-turn (c .before .before .loop .keys) (c .before .before .before .before .args .t1) (c .before .before .loop .i) (omega arith) (omega arith) (c .before .before .loop .inv .1)))
+loop-again c =
+    let here = c .before .before .loop in
+    let start = c .before .before .before .before .args in
+    (omega arith, rw (c .wide .ensures) (copy-turn (here .keys) (start .t1) (here .i) (omega arith) (omega arith) (here .inv .1)))
 
 returns : tie.Need-returns Inv-loop μ-loop
 returns c = copy-all (c .before .loop .keys) (c .before .before .before .args .t1) (c .before .loop .i) (search needs) (omega arith) (c .before .loop .inv .1)

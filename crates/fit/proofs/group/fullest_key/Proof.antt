@@ -33,16 +33,31 @@ loop-less c = omega arith
 
 loop-again : tie.Need-loop-again Inv-loop μ-loop
 loop-again c =
+    let here = c .before .before .before .before .loop in
+    let start = c .before .before .before .before .before .before .before .args in
     ⊎-elim
-    (λ w. (omega arith, omega arith, rw (w .1, w .2) (c .before .counted-at2 .ensures), rw (w .1) (sym (argmax-take (counted (c .before .before .before .before .before .before .before .args .counts .now)) 257 (c .before .before .before .before .loop .i) (c .before .before .before .before .loop .b) (omega arith) (omega arith)) ∙ c .before .before .before .before .loop .inv .3)))
-    (λ w. (omega arith, omega arith, rw (w .1, w .2) (c .before .before .before .before .loop .inv .2), rw (w .1) (sym (argmax-keep (counted (c .before .before .before .before .before .before .before .args .counts .now)) 257 (c .before .before .before .before .loop .i) (c .before .before .before .before .loop .b) (omega arith) (omega arith)) ∙ c .before .before .before .before .loop .inv .3)))
+    (λ w. (
+      omega arith,
+      omega arith,
+      rw (w .1, w .2) (c .before .counted-at2 .ensures),
+      rw (w .1) (sym (argmax-take (counted (start .counts .now)) 257 (here .i) (here .b) (omega arith) (omega arith)) ∙ here .inv .3),
+    ))
+    (λ w. (
+      omega arith,
+      omega arith,
+      rw (w .1, w .2) (here .inv .2),
+      rw (w .1) (sym (argmax-keep (counted (start .counts .now)) 257 (here .i) (here .b) (omega arith) (omega arith)) ∙ here .inv .3),
+    ))
     (c .if1 .came)
 
 cast-result : tie.Need-cast-result Inv-loop μ-loop
 cast-result c = search needs
 
 returns : tie.Need-returns Inv-loop μ-loop
-returns c = sym (argmax-end (counted (c .before .before .before .before .args .counts .now)) 257 (c .before .loop .i) (c .before .loop .b) (omega arith)) ∙ c .before .loop .inv .3
+returns c =
+    let here = c .before .loop in
+    let start = c .before .before .before .before .args in
+    sym (argmax-end (counted (start .counts .now)) 257 (here .i) (here .b) (omega arith)) ∙ here .inv .3
 
 pub fullest-key-spec : {M : Type 1} → statement M
 fullest-key-spec =

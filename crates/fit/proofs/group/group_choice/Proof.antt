@@ -22,7 +22,13 @@ take-these-requires : tie.Need-take-these-requires
 take-these-requires c κs = search needs
 
 returns : tie.Need-returns
-returns c = group-one _ _ _ _ (c .before .before .before .with-key .result) (c .before .first-of .result) _ (c .before .before .before .before .fullest-key .ensures ∙ ap fullest (c .before .before .before .before .before .before .tally .ensures)) (c .before .before .before .with-key .ensures) (c .before .before .if1 .taken) (c .before .first-of .ensures) (c .take-these .ensures)
+returns c =
+    let first-of = c .before .first-of in
+    let with-key = c .before .before .before .with-key in
+    let fullest-key = c .before .before .before .before .fullest-key in
+    let tally = c .before .before .before .before .before .before .tally in
+    group-one _ _ _ _ (with-key .result) (first-of .result) _ (fullest-key .ensures ∙ ap fullest (tally .ensures)) (with-key .ensures)
+    (c .before .before .if1 .taken) (first-of .ensures) (c .take-these .ensures)
 
 first-of-requires-2 : tie.Need-first-of-requires-2
 first-of-requires-2 c κs = search needs
@@ -31,7 +37,13 @@ take-these-requires-2 : tie.Need-take-these-requires-2
 take-these-requires-2 c κs = search needs
 
 returns-2 : tie.Need-returns-2
-returns-2 c = group-none _ _ _ _ (c .before .before .before .with-key .result) (c .before .first-of2 .result) _ (c .before .before .before .before .fullest-key .ensures ∙ ap fullest (c .before .before .before .before .before .before .tally .ensures)) (c .before .before .before .with-key .ensures) (c .before .before .if1 .left) (c .before .first-of2 .ensures) (c .take-these2 .ensures)
+returns-2 c =
+    let first-of2 = c .before .first-of2 in
+    let with-key = c .before .before .before .with-key in
+    let fullest-key = c .before .before .before .before .fullest-key in
+    let tally = c .before .before .before .before .before .before .tally in
+    group-none _ _ _ _ (with-key .result) (first-of2 .result) _ (fullest-key .ensures ∙ ap fullest (tally .ensures)) (with-key .ensures)
+    (c .before .before .if1 .left) (first-of2 .ensures) (c .take-these2 .ensures)
 
 pub group-choice-spec : {M : Type 1} → statement M
 group-choice-spec =

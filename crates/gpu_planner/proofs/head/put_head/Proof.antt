@@ -14,7 +14,8 @@ slice-write-words-2 : tie.Need-slice-write-words-2
 slice-write-words-2 c = lt-length-set (c .args .words .now) 0 (c .args .head .answer) (omega arith)
 
 slice-write-words-3 : tie.Need-slice-write-words-3
-slice-write-words-3 c = lt-length-set (set (c .args .words .now) 0 (c .args .head .answer)) 1 (c .args .head .place) (lt-length-set (c .args .words .now) 0 (c .args .head .answer) (omega arith))
+slice-write-words-3 c = lt-length-set (set (c .args .words .now) 0 (c .args .head .answer)) 1 (c .args .head .place)
+    (lt-length-set (c .args .words .now) 0 (c .args .head .answer) (omega arith))
 
 slice-write-words-4 : tie.Need-slice-write-words-4
 slice-write-words-4 c = search needs

@@ -47,10 +47,19 @@ loop-less : tie.Need-loop-less Inv-loop μ-loop
 loop-less c = omega arith
 
 loop-again : tie.Need-loop-again Inv-loop μ-loop
-loop-again c = (omega arith, simp length-set (omega arith), rw (c .held-event2 .ensures) (over-turn heldEvent (c .before .before .before .before .before .before .args .t1) (c .before .before .before .loop .table) (c .before .before .before .loop .i) _ (omega arith) (omega arith) ∙ c .before .before .before .loop .inv .2))
+loop-again c =
+    let here = c .before .before .before .loop in
+    let start = c .before .before .before .before .before .before .args in (
+      omega arith,
+      simp length-set (omega arith),
+      rw (c .held-event2 .ensures) (over-turn heldEvent (start .t1) (here .table) (here .i) _ (omega arith) (omega arith) ∙ here .inv .2),
+    )
 
 returns : tie.Need-returns Inv-loop μ-loop
-returns c = over-end heldEvent (c .before .before .before .before .args .t1) (c .before .loop .table) (c .before .loop .i) (omega arith) (omega arith) ∙ c .before .loop .inv .2
+returns c =
+    let here = c .before .loop in
+    let start = c .before .before .before .before .args in
+    over-end heldEvent (start .t1) (here .table) (here .i) (omega arith) (omega arith) ∙ here .inv .2
 
 pub held-events-spec : {M : Type 1} → statement M
 held-events-spec =

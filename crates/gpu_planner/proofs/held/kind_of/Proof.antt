@@ -1,6 +1,5 @@
 -- `gpu_planner::held::kind_of` meets its contract.
 use borrow.Author.Tests.{ne-eqb}
-use borrow.Author.Needs.{needs}
 use Rattle.gpu_planner.proofs.held.kind_of.Statement.{statement}
 use Rattle.gpu_planner.proofs.held.kind_of.Tie as tie
 

@@ -1,6 +1,5 @@
 -- `gpu_planner::held::state_of` meets its contract.
 use borrow.Author.Tests.{ne-eqb}
-use borrow.Author.Needs.{needs}
 use Rattle.gpu_planner.proofs.held.state_of.Statement.{statement}
 use Rattle.gpu_planner.proofs.held.state_of.Tie as tie
 
@@ -20,7 +19,15 @@ returns-5 : tie.Need-returns-5
 returns-5 c = rw (c .if5 .taken)
 
 returns-6 : tie.Need-returns-6
-returns-6 c = rw (ne-eqb _ _ (c .before .before .before .before .if1 .left), ne-eqb _ _ (c .before .before .before .if2 .left), ne-eqb _ _ (c .before .before .if3 .left), ne-eqb _ _ (c .before .if4 .left), ne-eqb _ _ (c .if5 .left))
+returns-6 c =
+    let if1 = c .before .before .before .before .if1 in
+    rw (
+      ne-eqb _ _ (if1 .left),
+      ne-eqb _ _ (c .before .before .before .if2 .left),
+      ne-eqb _ _ (c .before .before .if3 .left),
+      ne-eqb _ _ (c .before .if4 .left),
+      ne-eqb _ _ (c .if5 .left),
+    )
 
 pub state-of-spec : {M : Type 1} → statement M
 state-of-spec = tie.close (tie.spec returns returns-2 returns-3 returns-4 returns-5 returns-6)

@@ -34,28 +34,40 @@ first-rest-requires c κs = search needs
 
 run-requires : tie.Need-run-requires
 run-requires c κs =
-    let jobs = jobsOf (c .before .before .before .before .before .before .before .before .before .before .before .before .before .before .before .before .before .before .before .load-tables .last .1 .1 .1 .1 .1 .0) in
-    (c .before .before .before .before .before .before .before .before .before .before .before .before .before .before .before .before .before .before .before .before .before .before .before .before .before .before .before .pre, first-top _ jobs (c .before .before .before .before .before .before .before .before .lesser .result) (c .before .before .before .before .before .write-arrivals .ensures))
+    let write-arrivals = c .before .before .before .before .before .write-arrivals in
+    let lesser = c .before .before .before .before .before .before .before .before .lesser in
+    let back = c .before .before .before .before .before .before .before .before .before .before in
+    let load-tables = back .before .before .before .before .before .before .before .before .before .load-tables in
+    let further = back .before .before .before .before .before .before .before .before .before .before in
+    let pre = further .before .before .before .before .before .before .before .pre in
+    let jobs = jobsOf (load-tables .last .1 .1 .1 .1 .1 .0) in
+    (pre, first-top _ jobs (lesser .result) (write-arrivals .ensures))
 
 same-length : tie.Need-same-length
 same-length c = search needs
 
 returns : tie.Need-returns
 returns c =
-    let start = c .before .before .before .before .before .before .before .before .before .before .before .before .before .before .before .before .before .before .before .before .before .before .before .before .before .before .before .before .before .before .args in
-    let loaded = c .before .before .before .before .before .before .before .before .before .before .before .before .before .before .before .before .before .before .before .before .before .before .load-tables in
-    let setting = c .before .before .before .before .before .before .before .before .before .before .before .before .before .before .before .setting-of in
-    let places = c .before .before .before .before .before .before .before .before .before .before .before .before .job-places in
-    let lesser = c .before .before .before .before .before .before .before .before .before .before .before .lesser in
+    let run = c .before .before .run in
     let rest = c .before .before .before .before .first-rest in
+    let write-arrivals = c .before .before .before .before .before .before .before .before .write-arrivals in
+    let lesser = c .before .before .before .before .before .before .before .before .before .before .before .lesser in
+    let places = c .before .before .before .before .before .before .before .before .before .before .before .before .job-places in
+    let back = c .before .before .before .before .before .before .before .before .before .before in
+    let setting = back .before .before .before .before .before .setting-of in
+    let if1 = back .before .before .before .before .before .before .before .before .before .before .if1 in
+    let is-accepted = back .before .before .before .before .before .before .before .before .before .before .before .is-accepted in
+    let loaded = back .before .before .before .before .before .before .before .before .before .before .before .before .load-tables in
+    let further = back .before .before .before .before .before .before .before .before .before .before in
+    let start = further .before .before .before .before .before .before .before .before .before .before .args in
     let gpus = loaded .last .1 .1 .1 .1 .0 in
     let jobs = loaded .last .1 .1 .1 .1 .1 .0 in
     let is = loaded .ensures ∙ load-zeros (start .trace .now) in
-    let accepted = sym (c .before .before .before .before .before .before .before .before .before .before .before .before .before .before .before .before .before .before .before .before .before .is-accepted .ensures) ∙ c .before .before .before .before .before .before .before .before .before .before .before .before .before .before .before .before .before .before .before .before .if1 .taken in
+    let accepted = sym (is-accepted .ensures) ∙ if1 .taken in
     let n = rw (setting .ensures) at (lesser .ensures) in
-    let room = first-room _ (jobsOf jobs) (loaded .result .loading .jobs) (lesser .result) (places .result) (places .ensures) n (c .before .before .before .before .before .before .before .before .write-arrivals .ensures) in
-    ran-lent (start .trace .now) (start .words .now) (loaded .result) _ _ _ gpus jobs is (c .before .before .run .result) (c .before .before .before .before .before .before .before .before .write-arrivals .last .0) (rest .result) _ accepted room
-    (rw (setting .ensures) at (rest .ensures)) (c .before .before .run .ensures .0) (c .before .before .run .ensures .1)
+    let room = first-room _ (jobsOf jobs) (loaded .result .loading .jobs) (lesser .result) (places .result) (places .ensures) n (write-arrivals .ensures) in
+    ran-lent (start .trace .now) (start .words .now) (loaded .result) _ _ _ gpus jobs is (run .result) (write-arrivals .last .0) (rest .result) _ accepted room
+    (rw (setting .ensures) at (rest .ensures)) (run .ensures .0) (run .ensures .1)
 
 refused-requires : tie.Need-refused-requires
 refused-requires c κs = search needs
@@ -65,7 +77,8 @@ returns-2 c =
     let start = c .before .before .before .before .before .before .before .before .before .before .before .args in
     let loaded = c .before .before .before .load-tables in
     let is = loaded .ensures ∙ load-zeros (start .trace .now) in
-    refused-lent (start .trace .now) (start .words .now) (loaded .result) _ _ _ (loaded .last .1 .1 .1 .1 .0) (loaded .last .1 .1 .1 .1 .1 .0) is (c .refused .result) (sym (c .before .before .is-accepted .ensures) ∙ c .before .if1 .left) (c .refused .ensures)
+    refused-lent (start .trace .now) (start .words .now) (loaded .result) _ _ _ (loaded .last .1 .1 .1 .1 .0) (loaded .last .1 .1 .1 .1 .1 .0) is
+    (c .refused .result) (sym (c .before .before .is-accepted .ensures) ∙ c .before .if1 .left) (c .refused .ensures)
 
 pub load-and-run-spec : {M : Type 1} → statement M
 load-and-run-spec =

@@ -13,7 +13,9 @@ use Rattle.gpu_planner.proofs.run.run.Statement.{statement}
 use Rattle.gpu_planner.proofs.run.run.Tie as tie
 
 abbrev Inv-loop : tie.InvT-loop
-Inv-loop gpus₀ jobs₀ room₀ first words₀ rest₀ top₀ count₀ steps₀ gpus jobs room words rest top count steps = (steps ≤ turns) × (behind count ≤ length words) × (length words ≡ length words₀) × (runTo (turns - steps) (wholePlan rest gpus jobs room) steps count words ≡ runTo turns (wholePlan rest₀ gpus₀ jobs₀ room₀) 0 0 words₀) × freeFrom top (eventsOf room)
+Inv-loop gpus₀ jobs₀ room₀ first words₀ rest₀ top₀ count₀ steps₀ gpus jobs room words rest top count steps =
+    (steps ≤ turns) × (behind count ≤ length words) × (length words ≡ length words₀) ×
+    (runTo (turns - steps) (wholePlan rest gpus jobs room) steps count words ≡ runTo turns (wholePlan rest₀ gpus₀ jobs₀ room₀) 0 0 words₀) × freeFrom top (eventsOf room)
 
 abbrev μ-loop : tie.MeasureT-loop
 μ-loop gpus₀ jobs₀ room₀ first words₀ rest₀ top₀ count₀ steps₀ gpus jobs room words rest top count steps = turns - steps
@@ -52,7 +54,11 @@ lesser-requires : tie.Need-lesser-requires Inv-loop μ-loop
 lesser-requires c κs = search needs
 
 add-count : tie.Need-add-count Inv-loop μ-loop
-add-count c = record { fits = omega (arith, c .before .before .before .before .before .before .before .before .before .before .before .before .before .before .before .before .before .good .1 .1 .1 .1 .1 .0, c .before .before .before .before .before .before .before .before .before .before .before .before .before .before .before .loop .inv .1, c .before .before .before .before .before .before .before .before .before .before .before .before .before .before .before .loop .inv .2) }
+add-count c =
+    let back = c .before .before .before .before .before .before .before .before .before .before in
+    let here = back .before .before .before .before .before .loop in
+    let good = back .before .before .before .before .before .before .before .good in
+    record { fits = omega (arith, good .1 .1 .1 .1 .1 .0, here .inv .1, here .inv .2) }
 
 enum-told : tie.Need-enum-told Inv-loop μ-loop
 enum-told c = search needs
@@ -65,7 +71,13 @@ same-length c = search needs
 
 returns : tie.Need-returns Inv-loop μ-loop
 returns c =
-    let t : _ = lent-turn-is (wholePlan (c .before .before .before .before .before .before .before .before .before .before .before .before .before .before .loop .rest) (c .before .before .before .before .before .before .before .before .before .before .before .before .before .before .loop .gpus) (c .before .before .before .before .before .before .before .before .before .before .before .before .before .before .loop .jobs) (c .before .before .before .before .before .before .before .before .before .before .before .before .before .before .loop .room)) (c .before .before .before .before .before .before .before .before .before .before .before .before .before .before .loop .steps) (c .before .before .before .before .before .before .before .before .before .before .before .before .before .before .loop .count) (c .before .before .before .before .before .before .before .before .before .before .before .before .before .before .loop .words) (c .before .before .before .before .before .before .before .before .step-lent .last .1 .1 .1 .1 .1 .0) (c .before .before .before .before .before .before .before .before .step-lent .result .answer) (wholePlan (c .before .before .before .before .before .before .before .before .step-lent .result .rest) (c .before .before .before .before .before .before .before .before .step-lent .last .0) (c .before .before .before .before .before .before .before .before .step-lent .last .1 .0) (c .before .before .before .before .before .before .before .before .step-lent .last .1 .1 .0)) _ (c .before .before .before .before .before .before .before .before .step-lent .ensures (c .before .before .before .before .before .before .before .before .before .before .before .before .before .before .loop .inv .4)) (omega arith) (c .before .before .before .before .before .before .before .before .before .before .before .before .before .before .loop .inv .3) in
+    let step-lent = c .before .before .before .before .before .before .before .before .step-lent in
+    let back = c .before .before .before .before .before .before .before .before .before .before in
+    let here = back .before .before .before .before .loop in
+    let t : _ = lent-turn-is (wholePlan (here .rest) (here .gpus) (here .jobs) (here .room)) (here .steps) (here .count) (here .words)
+    (step-lent .last .1 .1 .1 .1 .1 .0) (step-lent .result .answer)
+    (wholePlan (step-lent .result .rest) (step-lent .last .0) (step-lent .last .1 .0) (step-lent .last .1 .1 .0)) _
+    (step-lent .ensures (here .inv .4)) (omega arith) (here .inv .3) in
     both-of _ _ (c .ended .result) _ (rw (c .before .enum-told .given .1) at t) (c .ended .ensures)
 
 enum-told-2 : tie.Need-enum-told-2 Inv-loop μ-loop
@@ -79,7 +91,13 @@ same-length-2 c = search needs
 
 returns-2 : tie.Need-returns-2 Inv-loop μ-loop
 returns-2 c =
-    let t : _ = lent-turn-is (wholePlan (c .before .before .before .before .before .before .before .before .before .before .before .before .before .before .loop .rest) (c .before .before .before .before .before .before .before .before .before .before .before .before .before .before .loop .gpus) (c .before .before .before .before .before .before .before .before .before .before .before .before .before .before .loop .jobs) (c .before .before .before .before .before .before .before .before .before .before .before .before .before .before .loop .room)) (c .before .before .before .before .before .before .before .before .before .before .before .before .before .before .loop .steps) (c .before .before .before .before .before .before .before .before .before .before .before .before .before .before .loop .count) (c .before .before .before .before .before .before .before .before .before .before .before .before .before .before .loop .words) (c .before .before .before .before .before .before .before .before .step-lent .last .1 .1 .1 .1 .1 .0) (c .before .before .before .before .before .before .before .before .step-lent .result .answer) (wholePlan (c .before .before .before .before .before .before .before .before .step-lent .result .rest) (c .before .before .before .before .before .before .before .before .step-lent .last .0) (c .before .before .before .before .before .before .before .before .step-lent .last .1 .0) (c .before .before .before .before .before .before .before .before .step-lent .last .1 .1 .0)) _ (c .before .before .before .before .before .before .before .before .step-lent .ensures (c .before .before .before .before .before .before .before .before .before .before .before .before .before .before .loop .inv .4)) (omega arith) (c .before .before .before .before .before .before .before .before .before .before .before .before .before .before .loop .inv .3) in
+    let step-lent = c .before .before .before .before .before .before .before .before .step-lent in
+    let back = c .before .before .before .before .before .before .before .before .before .before in
+    let here = back .before .before .before .before .loop in
+    let t : _ = lent-turn-is (wholePlan (here .rest) (here .gpus) (here .jobs) (here .room)) (here .steps) (here .count) (here .words)
+    (step-lent .last .1 .1 .1 .1 .1 .0) (step-lent .result .answer)
+    (wholePlan (step-lent .result .rest) (step-lent .last .0) (step-lent .last .1 .0) (step-lent .last .1 .1 .0)) _
+    (step-lent .ensures (here .inv .4)) (omega arith) (here .inv .3) in
     both-of _ _ (c .ended2 .result) _ (rw (c .before .enum-told2 .given .1) at t) (c .ended2 .ensures)
 
 enum-told-3 : tie.Need-enum-told-3 Inv-loop μ-loop
@@ -93,7 +111,13 @@ same-length-3 c = search needs
 
 returns-3 : tie.Need-returns-3 Inv-loop μ-loop
 returns-3 c =
-    let t : _ = lent-turn-is (wholePlan (c .before .before .before .before .before .before .before .before .before .before .before .before .before .before .loop .rest) (c .before .before .before .before .before .before .before .before .before .before .before .before .before .before .loop .gpus) (c .before .before .before .before .before .before .before .before .before .before .before .before .before .before .loop .jobs) (c .before .before .before .before .before .before .before .before .before .before .before .before .before .before .loop .room)) (c .before .before .before .before .before .before .before .before .before .before .before .before .before .before .loop .steps) (c .before .before .before .before .before .before .before .before .before .before .before .before .before .before .loop .count) (c .before .before .before .before .before .before .before .before .before .before .before .before .before .before .loop .words) (c .before .before .before .before .before .before .before .before .step-lent .last .1 .1 .1 .1 .1 .0) (c .before .before .before .before .before .before .before .before .step-lent .result .answer) (wholePlan (c .before .before .before .before .before .before .before .before .step-lent .result .rest) (c .before .before .before .before .before .before .before .before .step-lent .last .0) (c .before .before .before .before .before .before .before .before .step-lent .last .1 .0) (c .before .before .before .before .before .before .before .before .step-lent .last .1 .1 .0)) _ (c .before .before .before .before .before .before .before .before .step-lent .ensures (c .before .before .before .before .before .before .before .before .before .before .before .before .before .before .loop .inv .4)) (omega arith) (c .before .before .before .before .before .before .before .before .before .before .before .before .before .before .loop .inv .3) in
+    let step-lent = c .before .before .before .before .before .before .before .before .step-lent in
+    let back = c .before .before .before .before .before .before .before .before .before .before in
+    let here = back .before .before .before .before .loop in
+    let t : _ = lent-turn-is (wholePlan (here .rest) (here .gpus) (here .jobs) (here .room)) (here .steps) (here .count) (here .words)
+    (step-lent .last .1 .1 .1 .1 .1 .0) (step-lent .result .answer)
+    (wholePlan (step-lent .result .rest) (step-lent .last .0) (step-lent .last .1 .0) (step-lent .last .1 .1 .0)) _
+    (step-lent .ensures (here .inv .4)) (omega arith) (here .inv .3) in
     both-of _ _ (c .ended3 .result) _ (rw (c .before .enum-told3 .given .1) at t) (c .ended3 .ensures)
 
 add-steps : tie.Need-add-steps Inv-loop μ-loop
@@ -104,9 +128,25 @@ loop-less c = search needs
 
 loop-again : tie.Need-loop-again Inv-loop μ-loop
 loop-again c =
-    let l : _ = c .before .before .before .before .before .before .before .before .words .given in
-    let t : _ = lent-turn-on (wholePlan (c .before .before .before .before .before .before .before .before .before .before .before .before .before .before .before .loop .rest) (c .before .before .before .before .before .before .before .before .before .before .before .before .before .before .before .loop .gpus) (c .before .before .before .before .before .before .before .before .before .before .before .before .before .before .before .loop .jobs) (c .before .before .before .before .before .before .before .before .before .before .before .before .before .before .before .loop .room)) (c .before .before .before .before .before .before .before .before .before .before .before .before .before .before .before .loop .steps) (c .before .before .before .before .before .before .before .before .before .before .before .before .before .before .before .loop .count) (c .before .before .before .before .before .before .before .before .before .before .before .before .before .before .before .loop .words) (c .before .before .before .before .before .before .before .before .before .step-lent .last .1 .1 .1 .1 .1 .0) (c .before .before .before .before .before .before .before .before .before .step-lent .result .answer) (wholePlan (c .before .before .before .before .before .before .before .before .before .step-lent .result .rest) (c .before .before .before .before .before .before .before .before .before .step-lent .last .0) (c .before .before .before .before .before .before .before .before .before .step-lent .last .1 .0) (c .before .before .before .before .before .before .before .before .before .step-lent .last .1 .1 .0)) _ (c .before .before .before .before .before .before .before .before .before .step-lent .ensures (c .before .before .before .before .before .before .before .before .before .before .before .before .before .before .before .loop .inv .4)) (omega arith) (c .before .before .before .before .before .before .before .before .before .before .before .before .before .before .before .loop .inv .3) _ (c .lesser .result) (c .before .before .answer .given .1) (c .lesser .ensures) (l .1) (omega arith) in
-    (omega arith, t .0, l .1 ∙ c .before .before .before .before .before .before .before .before .before .before .before .before .before .before .before .loop .inv .2, t .1, next-top (wholePlan (c .before .before .before .before .before .before .before .before .before .before .before .before .before .before .before .loop .rest) (c .before .before .before .before .before .before .before .before .before .before .before .before .before .before .before .loop .gpus) (c .before .before .before .before .before .before .before .before .before .before .before .before .before .before .before .loop .jobs) (c .before .before .before .before .before .before .before .before .before .before .before .before .before .before .before .loop .room)) (wholePlan (c .before .before .before .before .before .before .before .before .before .step-lent .result .rest) (c .before .before .before .before .before .before .before .before .before .step-lent .last .0) (c .before .before .before .before .before .before .before .before .before .step-lent .last .1 .0) (c .before .before .before .before .before .before .before .before .before .step-lent .last .1 .1 .0)) _ (c .before .before .before .before .before .before .before .before .before .before .before .before .before .before .before .loop .top) (c .before .before .before .before .next-top .result) (c .before .before .before .before .before .before .before .before .before .before .before .before .before .before .before .loop .inv .4) (c .before .before .before .before .before .before .before .before .before .step-lent .ensures (c .before .before .before .before .before .before .before .before .before .before .before .before .before .before .before .loop .inv .4) .1 .0) (c .before .before .before .before .next-top .ensures))
+    let next-top-call = c .before .before .before .before .next-top in
+    let words = c .before .before .before .before .before .before .before .before .words in
+    let step-lent = c .before .before .before .before .before .before .before .before .before .step-lent in
+    let back = c .before .before .before .before .before .before .before .before .before .before in
+    let here = back .before .before .before .before .before .loop in
+    let l : _ = words .given in
+    let t : _ = lent-turn-on (wholePlan (here .rest) (here .gpus) (here .jobs) (here .room)) (here .steps) (here .count) (here .words)
+    (step-lent .last .1 .1 .1 .1 .1 .0) (step-lent .result .answer)
+    (wholePlan (step-lent .result .rest) (step-lent .last .0) (step-lent .last .1 .0) (step-lent .last .1 .1 .0)) _
+    (step-lent .ensures (here .inv .4)) (omega arith) (here .inv .3) _ (c .lesser .result) (c .before .before .answer .given .1)
+    (c .lesser .ensures) (l .1) (omega arith) in (
+      omega arith,
+      t .0,
+      l .1 ∙ here .inv .2,
+      t .1,
+      next-top (wholePlan (here .rest) (here .gpus) (here .jobs) (here .room))
+          (wholePlan (step-lent .result .rest) (step-lent .last .0) (step-lent .last .1 .0) (step-lent .last .1 .1 .0)) _ (here .top)
+          (next-top-call .result) (here .inv .4) (step-lent .ensures (here .inv .4) .1 .0) (next-top-call .ensures),
+    )
 
 ended-requires-4 : tie.Need-ended-requires-4 Inv-loop μ-loop
 ended-requires-4 c κs = search needs
@@ -116,7 +156,10 @@ same-length-4 c = search needs
 
 returns-4 : tie.Need-returns-4 Inv-loop μ-loop
 unfolding runTo
-returns-4 c = both-of _ _ (c .ended4 .result) _ (sym (turns-over (wholePlan (c .before .before .loop .rest) (c .before .before .loop .gpus) (c .before .before .loop .jobs) (c .before .before .loop .room)) (c .before .before .loop .steps) (c .before .before .loop .count) (c .before .before .loop .words) (omega arith)) ∙ c .before .before .loop .inv .3) (c .ended4 .ensures)
+returns-4 c =
+    let here = c .before .before .loop in
+    both-of _ _ (c .ended4 .result) _ (sym (turns-over (wholePlan (here .rest) (here .gpus) (here .jobs) (here .room)) (here .steps) (here .count)
+    (here .words) (omega arith)) ∙ here .inv .3) (c .ended4 .ensures)
 
 pub run-spec : {M : Type 1} → statement M
 run-spec =

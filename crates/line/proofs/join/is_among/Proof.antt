@@ -29,7 +29,9 @@ array-read-if1 : tie.Need-array-read-if1 Inv-loop μ-loop
 array-read-if1 c = search needs
 
 returns : tie.Need-returns Inv-loop μ-loop
-returns c = among-found _ (c .before .before .before .before .args .t1) (c .before .before .loop .i) (c .before .before .before .before .args .count) (omega arith) (omega arith) (c .if1 .taken)
+returns c =
+    let start = c .before .before .before .before .args in
+    among-found _ (start .t1) (c .before .before .loop .i) (start .count) (omega arith) (omega arith) (c .if1 .taken)
 
 add-i : tie.Need-add-i Inv-loop μ-loop
 add-i c = search needs
@@ -38,10 +40,16 @@ loop-less : tie.Need-loop-less Inv-loop μ-loop
 loop-less c = omega arith
 
 loop-again : tie.Need-loop-again Inv-loop μ-loop
-loop-again c = (omega arith, omega arith, among-next _ (c .before .before .before .before .args .t1) (c .before .before .loop .i) (omega arith) (c .if1 .left) (c .before .before .loop .inv .2))
+loop-again c =
+    let here = c .before .before .loop in
+    let start = c .before .before .before .before .args in
+    (omega arith, omega arith, among-next _ (start .t1) (here .i) (omega arith) (c .if1 .left) (here .inv .2))
 
 returns-2 : tie.Need-returns-2 Inv-loop μ-loop
-returns-2 c = among-none _ (c .before .before .before .args .t1) (c .before .loop .i) (c .before .before .before .args .count) (omega arith) (omega arith) (c .before .loop .inv .2)
+returns-2 c =
+    let here = c .before .loop in
+    let start = c .before .before .before .args in
+    among-none _ (start .t1) (here .i) (start .count) (omega arith) (omega arith) (here .inv .2)
 
 pub is-among-spec : {M : Type 1} → statement M
 is-among-spec =

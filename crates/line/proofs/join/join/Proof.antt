@@ -33,7 +33,23 @@ both-requires c κs = search needs
 
 returns : tie.Need-returns
 unfolding joined
-returns c = rw (c .both .ensures, c .before .is-permitted .ensures, c .before .before .tell .ensures, c .before .before .before .bits-of .ensures, c .before .before .before .before .after-eviction .ensures, c .before .before .before .before .before .onward2 .ensures, c .before .before .before .before .before .before .put-queue2 .ensures, c .before .before .before .before .before .before .before .put-queue .ensures, c .before .before .before .before .before .before .before .before .onward .ensures)
+returns c =
+    let after-eviction = c .before .before .before .before .after-eviction in
+    let onward2 = c .before .before .before .before .before .onward2 in
+    let put-queue2 = c .before .before .before .before .before .before .put-queue2 in
+    let put-queue = c .before .before .before .before .before .before .before .put-queue in
+    let onward = c .before .before .before .before .before .before .before .before .onward in
+    rw (
+      c .both .ensures,
+      c .before .is-permitted .ensures,
+      c .before .before .tell .ensures,
+      c .before .before .before .bits-of .ensures,
+      after-eviction .ensures,
+      onward2 .ensures,
+      put-queue2 .ensures,
+      put-queue .ensures,
+      onward .ensures,
+    )
 
 pub join-spec : {M : Type 1} → statement M
 join-spec =

@@ -45,11 +45,21 @@ loop-less c = omega arith
 
 loop-again : tie.Need-loop-again Inv-loop μ-loop
 loop-again c =
-    let z : length (c .before .before .before .before .before .before .args .t4) ≡ 128 = c .before .before .before .before .loop .inv .2 in
-    (omega arith, omega arith, z, c .join .ensures ∙ rw (c .before .read-job .ensures, c .before .before .wide-id .ensures) (joined-next _ _ _ _ (c .before .before .before .before .before .before .args .t4) _ (c .before .before .before .before .loop .i) (omega arith) (c .before .before .before .before .loop .inv .3)))
+    let here = c .before .before .before .before .loop in
+    let start = c .before .before .before .before .before .before .args in
+    let z : length (start .t4) ≡ 128 = here .inv .2 in (
+      omega arith,
+      omega arith,
+      z,
+      c .join .ensures
+          ∙ rw (c .before .read-job .ensures, c .before .before .wide-id .ensures) (joined-next _ _ _ _ (start .t4) _ (here .i) (omega arith) (here .inv .3)),
+    )
 
 returns : tie.Need-returns Inv-loop μ-loop
-returns c = joined-done _ _ _ _ (c .before .before .before .args .t4) _ (c .before .loop .i) (c .before .before .before .args .count) (omega arith) (c .before .loop .inv .2) (c .before .loop .inv .3)
+returns c =
+    let here = c .before .loop in
+    let start = c .before .before .before .args in
+    joined-done _ _ _ _ (start .t4) _ (here .i) (start .count) (omega arith) (here .inv .2) (here .inv .3)
 
 pub join-all-spec : {M : Type 1} → statement M
 join-all-spec =

@@ -59,16 +59,23 @@ loop-less c = omega arith
 
 loop-again : tie.Need-loop-again Inv-loop μ-loop
 loop-again c =
-    let t : c .before .is-waiting .result ≡ waitsAt (jobsOf (c .before .before .before .before .before .before .before .before .args .jobs .now)) (getD (c .before .before .before .before .before .before .before .before .args .t2) (c .before .before .before .before .before .loop .i) 0) = c .before .is-waiting .ensures ∙ rw (c .before .before .read-job .ensures, c .before .before .before .wide-id .ensures) in
-    let f : Kept (c .if1 .ids) (c .if1 .k) (stillWaiting (jobsOf (c .before .before .before .before .before .before .before .before .args .jobs .now)) (c .before .before .before .before .before .before .before .before .args .t2) (c .before .before .before .before .before .loop .i + 1)) =
+    let is-waiting = c .before .is-waiting in
+    let here = c .before .before .before .before .before .loop in
+    let start = c .before .before .before .before .before .before .before .before .args in
+    let t : is-waiting .result ≡ waitsAt (jobsOf (start .jobs .now)) (getD (start .t2) (here .i) 0) = is-waiting .ensures
+    ∙ rw (c .before .before .read-job .ensures, c .before .before .before .wide-id .ensures) in
+    let f : Kept (c .if1 .ids) (c .if1 .k) (stillWaiting (jobsOf (start .jobs .now)) (start .t2) (here .i + 1)) =
     ⊎-elim
-    (λ w. rw (w .1, w .2) (waiting-take (jobsOf (c .before .before .before .before .before .before .before .before .args .jobs .now)) (c .before .before .before .before .before .before .before .before .args .t2) (c .before .before .before .before .before .loop .i) (omega arith) (omega arith) _ _ (sym t ∙ w .0 .taken) (c .before .before .before .before .before .loop .inv .3)))
-    (λ w. rw (w .1, w .2) (waiting-skip (jobsOf (c .before .before .before .before .before .before .before .before .args .jobs .now)) (c .before .before .before .before .before .before .before .before .args .t2) (c .before .before .before .before .before .loop .i) (omega arith) (omega arith) _ _ (sym t ∙ w .0 .left) (c .before .before .before .before .before .loop .inv .3)))
+    (λ w. rw (w .1, w .2) (waiting-take (jobsOf (start .jobs .now)) (start .t2) (here .i) (omega arith) (omega arith) _ _ (sym t ∙ w .0 .taken) (here .inv .3)))
+    (λ w. rw (w .1, w .2) (waiting-skip (jobsOf (start .jobs .now)) (start .t2) (here .i) (omega arith) (omega arith) _ _ (sym t ∙ w .0 .left) (here .inv .3)))
     (c .if1 .came) in
-    (omega arith, omega arith, waiting-size (jobsOf (c .before .before .before .before .before .before .before .before .args .jobs .now)) (c .before .before .before .before .before .before .before .before .args .t2) _ _ (c .before .before .before .before .before .loop .i + 1) f, f)
+    (omega arith, omega arith, waiting-size (jobsOf (start .jobs .now)) (start .t2) _ _ (here .i + 1) f, f)
 
 returns : tie.Need-returns Inv-loop μ-loop
-returns c = waiting-done _ (c .before .before .before .before .args .t2) _ _ (c .before .loop .i) (c .before .before .before .before .args .n) (omega arith) (omega arith) (c .before .loop .inv .3)
+returns c =
+    let here = c .before .loop in
+    let start = c .before .before .before .before .args in
+    waiting-done _ (start .t2) _ _ (here .i) (start .n) (omega arith) (omega arith) (here .inv .3)
 
 pub keep-waiting-spec : {M : Type 1} → statement M
 keep-waiting-spec =

@@ -1,5 +1,4 @@
 -- `loader::fault::room_for` meets its contract.
-use borrow.Author.Needs.{needs}
 use borrow.Author.Tests.{lt-ltb, le-ltb}
 use Rattle.loader.proofs.fault.room_for.Statement.{statement}
 use Rattle.loader.proofs.fault.room_for.Tie as tie

@@ -59,7 +59,13 @@ turn-over-requires c κs = search needs
 
 returns-2 : tie.Need-returns-2
 unfolding turn
-returns-2 c = rw (← told (c .before .before .before .before), ← c .before .before .before .is-accepted .ensures, c .before .before .if1 .left, ← c .before .shift .ensures, c .turn-over .ensures)
+returns-2 c = rw (
+  ← told (c .before .before .before .before),
+  ← c .before .before .before .is-accepted .ensures,
+  c .before .before .if1 .left,
+  ← c .before .shift .ensures,
+  c .turn-over .ensures,
+)
 
 pub take-turn-spec : {M : Type 1} → statement M
 take-turn-spec =

@@ -13,7 +13,8 @@ use Rattle.loader.proofs.load.take_turns.Tie as tie
 
 abbrev Inv-loop : tie.InvT-loop
 Inv-loop trace sites₀ quotas₀ mosts₀ gpus₀ jobs₀ n t₀ at₀ i₀ sites quotas mosts gpus jobs t at i =
-    (i ≤ n) × (at ≤ length trace) × (turns (n - i) trace at (wholeTables t sites quotas mosts gpus jobs) ≡ turns n trace 0 (wholeTables t₀ sites₀ quotas₀ mosts₀ gpus₀ jobs₀))
+    (i ≤ n) × (at ≤ length trace) × (turns (n - i) trace at (wholeTables t sites quotas mosts gpus jobs) ≡ turns n trace 0
+    (wholeTables t₀ sites₀ quotas₀ mosts₀ gpus₀ jobs₀))
 
 abbrev μ-loop : tie.MeasureT-loop
 μ-loop trace sites₀ quotas₀ mosts₀ gpus₀ jobs₀ n t₀ at₀ i₀ sites quotas mosts gpus jobs t at i = n - i
@@ -36,7 +37,13 @@ returns c =
     let start = c .before .before .before .before .before .before .before .before .before .before .before .args in
     let trace = now (start .trace) in
     let e = c .before .take-turn .ensures in
-    rw (← no-loading .ensures, ← here .inv .2, turns-over trace (length trace) (here .i) (here .at) (wholeTables (here .t) (here .sites) (here .quotas) (here .mosts) (here .gpus) (here .jobs)) (omega arith) (rw (← e) (c .if1 .taken)), ← e)
+    rw (
+      ← no-loading .ensures,
+      ← here .inv .2,
+      turns-over trace (length trace) (here .i) (here .at)
+          (wholeTables (here .t) (here .sites) (here .quotas) (here .mosts) (here .gpus) (here .jobs)) (omega arith) (rw (← e) (c .if1 .taken)),
+      ← e,
+    )
 
 add-i : tie.Need-add-i Inv-loop μ-loop
 add-i c = search needs
@@ -64,7 +71,13 @@ returns-2 c =
     let start = c .before .before .before .before .before .args in
     let trace = now (start .trace) in
     let here = c .before .before .loop in
-    rw (← c .before .before .before .no-loading .ensures, ← here .inv .2, turns-end trace (length trace) (here .i) (here .at) (wholeTables (here .t) (here .sites) (here .quotas) (here .mosts) (here .gpus) (here .jobs)) (omega arith), c .turn-over .ensures)
+    rw (
+      ← c .before .before .before .no-loading .ensures,
+      ← here .inv .2,
+      turns-end trace (length trace) (here .i) (here .at)
+          (wholeTables (here .t) (here .sites) (here .quotas) (here .mosts) (here .gpus) (here .jobs)) (omega arith),
+      c .turn-over .ensures,
+    )
 
 pub take-turns-spec : {M : Type 1} → statement M
 take-turns-spec =

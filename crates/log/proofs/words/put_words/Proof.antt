@@ -37,7 +37,13 @@ same-length : tie.Need-same-length
 same-length c = search needs
 
 returns : tie.Need-returns
-returns c = rw (c .before .before .put-word4 .ensures, c .before .before .before .before .before .before .before .put-word3 .ensures, c .before .before .before .before .before .before .before .before .before .before .before .before .put-word2 .ensures, c .before .before .before .before .before .before .before .before .before .before .before .before .before .kind-word .ensures, c .before .before .before .before .before .before .before .before .before .before .before .before .before .before .before .before .before .put-word .ensures)
+returns c =
+    let put-word3 = c .before .before .before .before .before .before .before .put-word3 in
+    let put-word2 = c .before .before .before .before .before .before .before .before .before .before .before .before .put-word2 in
+    let back = c .before .before .before .before .before .before .before .before .before .before in
+    let kind-word = back .before .before .before .kind-word in
+    let put-word = back .before .before .before .before .before .before .before .put-word in
+    rw (c .before .before .put-word4 .ensures, put-word3 .ensures, put-word2 .ensures, kind-word .ensures, put-word .ensures)
 
 pub put-words-spec : {M : Type 1} → statement M
 put-words-spec =

@@ -42,13 +42,27 @@ loop-less : tie.Need-loop-less Inv-loop μ-loop
 loop-less c = omega arith
 
 loop-again : tie.Need-loop-again Inv-loop μ-loop
-loop-again c = (omega arith, omega arith, c .before .before .put-words .ensures ∙ words-turn (c .before .before .before .before .before .before .before .before .before .args .t2) (c .before .before .before .before .before .before .loop .out) (c .before .before .before .before .before .before .before .before .before .args .out .now) (c .before .before .before .before .before .before .loop .i) _ (omega arith) (omega arith) (c .before .before .before .before .before .before .loop .inv .2))
+loop-again c =
+    let here = c .before .before .before .before .before .before .loop in
+    let start = c .before .before .before .before .before .before .before .before .before .args in (
+      omega arith,
+      omega arith,
+      c .before .before .put-words .ensures
+          ∙ words-turn (start .t2) (here .out) (start .out .now) (here .i) _ (omega arith) (omega arith) (here .inv .2),
+    )
 
 same-length : tie.Need-same-length Inv-loop μ-loop
-same-length c = words-size (c .before .before .before .before .args .t2) (c .before .loop .out) (c .before .before .before .before .args .out .now) (c .before .loop .i) (omega arith) (omega arith) (c .before .loop .inv .2)
+same-length c =
+    let here = c .before .loop in
+    let start = c .before .before .before .before .args in
+    words-size (start .t2) (here .out) (start .out .now) (here .i) (omega arith) (omega arith) (here .inv .2)
 
 returns : tie.Need-returns Inv-loop μ-loop
-returns c = words-done (c .before .before .before .before .args .t2) (c .before .loop .out) (c .before .before .before .before .args .out .now) (c .before .before .before .before .args .count) (c .before .before .lesser .result) (c .before .loop .i) (omega arith) (c .before .before .lesser .ensures) (omega arith) (c .before .loop .inv .2)
+returns c =
+    let here = c .before .loop in
+    let lesser = c .before .before .lesser in
+    let start = c .before .before .before .before .args in
+    words-done (start .t2) (here .out) (start .out .now) (start .count) (lesser .result) (here .i) (omega arith) (lesser .ensures) (omega arith) (here .inv .2)
 
 pub write-words-spec : {M : Type 1} → statement M
 write-words-spec =

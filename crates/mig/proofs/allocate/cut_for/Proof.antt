@@ -27,7 +27,7 @@ write-gpu-requires c κs = search needs
 
 returns : tie.Need-returns
 unfolding cutFor
-returns c = cc
+returns c = rw (c .write-gpu .ensures, c .before .before .give-in-order .ensures, c .before .before .before .wide .ensures, c .before .before .before .before .before .new-slices .ensures, c .before .before .before .before .before .before .read-gpu .ensures, c .before .before .before .before .before .before .before .before .free-elsewhere .ensures, c .before .before .before .before .before .before .before .before .before .before .first-idle .ensures)
 
 pub cut-for-spec : {M : Type 1} → statement M
 cut-for-spec =

@@ -41,7 +41,12 @@ loop-less : tie.Need-loop-less Inv-loop μ-loop
 loop-less c = omega arith
 
 loop-again : tie.Need-loop-again Inv-loop μ-loop
-loop-again c = (omega arith, simp length-set (omega arith), rw (c .without-owner .ensures) (map-turn (withoutOwner (c .before .before .before .args .owner)) (c .before .before .loop .table) (c .before .before .loop .i) 0 (omega arith) ∙ c .before .before .loop .inv .2))
+loop-again c =
+    let here = c .before .before .loop in (
+      omega arith,
+      simp length-set (omega arith),
+      rw (c .without-owner .ensures) (map-turn (withoutOwner (c .before .before .before .args .owner)) (here .table) (here .i) 0 (omega arith) ∙ here .inv .2),
+    )
 
 returns : tie.Need-returns Inv-loop μ-loop
 returns c = sym (map-end (withoutOwner (c .before .before .args .owner)) (c .before .loop .table) (c .before .loop .i) (omega arith)) ∙ c .before .loop .inv .2

@@ -33,7 +33,9 @@ loop-less : tie.Need-loop-less Inv-loop μ-loop
 loop-less c = omega arith
 
 loop-again : tie.Need-loop-again Inv-loop μ-loop
-loop-again c = (omega arith, nobodys-next (c .before .before .before .args .t1) (c .before .before .loop .i) (omega arith) (c .if1 .left) ∙ c .before .before .loop .inv .1)
+loop-again c =
+    let here = c .before .before .loop in
+    (omega arith, nobodys-next (c .before .before .before .args .t1) (here .i) (omega arith) (c .if1 .left) ∙ here .inv .1)
 
 returns-2 : tie.Need-returns-2 Inv-loop μ-loop
 returns-2 c = nobodys-end (c .before .before .args .t1) (c .before .loop .i) (omega arith) ∙ c .before .loop .inv .1

@@ -39,13 +39,23 @@ loop-less : tie.Need-loop-less Inv-loop μ-loop
 loop-less c = omega arith
 
 loop-again : tie.Need-loop-again Inv-loop μ-loop
-loop-again c = let b : bit (freeSlice (c .before .before .before .before .before .args .g) (c .before .before .before .before .before .args .profile) (c .before .before .before .loop .i)) ≡ c .one-if .result = cc in
-    (omega arith, omega (arith, bit-most (c .before .is-free-slice .result)), omega (arith, count-turn (freeSlice (c .before .before .before .before .before .args .g) (c .before .before .before .before .before .args .profile)) (c .before .before .before .before .slice-count .result) (c .before .before .before .loop .i) (omega arith)))
+loop-again c =
+    let here = c .before .before .before .loop in
+    let slice-count = c .before .before .before .before .slice-count in
+    let start = c .before .before .before .before .before .args in
+    let b : bit (freeSlice (start .g) (start .profile) (here .i)) ≡ c .one-if .result = cc in (
+      omega arith,
+      omega (arith, bit-most (c .before .is-free-slice .result)),
+      omega (arith, count-turn (freeSlice (start .g) (start .profile)) (slice-count .result) (here .i) (omega arith)),
+    )
 
 returns : tie.Need-returns Inv-loop μ-loop
 unfolding freeOn
-returns c = rw (← c .before .before .slice-count .ensures)
-    (omega (arith, ap length (those-end (freeSlice (c .before .before .before .args .g) (c .before .before .before .args .profile)) (c .before .before .slice-count .result) (c .before .loop .i) (omega arith))))
+returns c =
+    let slice-count = c .before .before .slice-count in
+    let start = c .before .before .before .args in
+    rw (← slice-count .ensures)
+    (omega (arith, ap length (those-end (freeSlice (start .g) (start .profile)) (slice-count .result) (c .before .loop .i) (omega arith))))
 
 pub free-slices-spec : {M : Type 1} → statement M
 free-slices-spec =

@@ -14,12 +14,15 @@ use Rattle.mig.proofs.slices.give_slices.Statement.{statement}
 use Rattle.mig.proofs.slices.give_slices.Tie as tie
 
 abbrev Inv-loop : tie.InvT-loop
-Inv-loop g profile most owner n owners₀ left₀ i₀ owners left i = (i ≤ n) × (put owners (take left (those (freeSlice g profile) (n - i) i)) owner ≡ put owners₀ (take most (those (freeSlice g profile) n 0)) owner)
+Inv-loop g profile most owner n owners₀ left₀ i₀ owners left i =
+    (i ≤ n) × (put owners (take left (those (freeSlice g profile) (n - i) i)) owner ≡ put owners₀ (take most (those (freeSlice g profile) n 0)) owner)
 
 abbrev μ-loop : tie.MeasureT-loop
 μ-loop g profile most owner n owners₀ left₀ i₀ owners left i = n - i
 
-told : (c : tie.After-both Inv-loop μ-loop) → (ltb 0 (c .before .before .before .loop .left) && freeSlice (c .before .before .before .before .before .before .args .g) (c .before .before .before .before .before .before .args .profile) (c .before .before .before .loop .i)) ≡ c .both .result
+told : (c : tie.After-both Inv-loop μ-loop) →
+    (ltb 0 (c .before .before .before .loop .left) && freeSlice (c .before .before .before .before .before .before .args .g)
+    (c .before .before .before .before .before .before .args .profile) (c .before .before .before .loop .i)) ≡ c .both .result
 told c = cc
 
 slice-count-requires : tie.Need-slice-count-requires Inv-loop μ-loop
@@ -50,17 +53,30 @@ loop-less : tie.Need-loop-less Inv-loop μ-loop
 loop-less c = omega arith
 
 loop-again : tie.Need-loop-again Inv-loop μ-loop
-loop-again c = (
-  omega arith,
-  ⊎-elim
-      (λ w. rw (w .1, w .2) (put-turn (freeSlice (c .before .before .before .before .before .before .before .args .g) (c .before .before .before .before .before .before .before .args .profile)) (c .before .before .before .before .before .before .slice-count .result) (c .before .before .before .before .before .before .before .args .owner) (c .before .before .before .before .loop .i) (c .before .before .before .before .loop .left) (c .before .before .before .before .loop .owners) (omega arith) (told (c .before) ∙ w .0 .taken) ∙ c .before .before .before .before .loop .inv .1))
-      (λ w. rw (w .1, w .2) (put-pass (freeSlice (c .before .before .before .before .before .before .before .args .g) (c .before .before .before .before .before .before .before .args .profile)) (c .before .before .before .before .before .before .slice-count .result) (c .before .before .before .before .before .before .before .args .owner) (c .before .before .before .before .loop .i) (c .before .before .before .before .loop .left) (c .before .before .before .before .loop .owners) (omega arith) (told (c .before) ∙ w .0 .left) ∙ c .before .before .before .before .loop .inv .1))
-      (c .if1 .came),
-)
+loop-again c =
+    let here = c .before .before .before .before .loop in
+    let slice-count = c .before .before .before .before .before .before .slice-count in
+    let start = c .before .before .before .before .before .before .before .args in (
+      omega arith,
+      ⊎-elim
+          (λ w. rw (w .1, w .2) (put-turn (freeSlice (start .g) (start .profile)) (slice-count .result) (start .owner) (here .i) (here .left)
+          (here .owners) (omega arith) (told (c .before) ∙ w .0 .taken) ∙ here .inv .1))
+          (λ w. rw (w .1, w .2) (put-pass (freeSlice (start .g) (start .profile)) (slice-count .result) (start .owner) (here .i) (here .left)
+          (here .owners) (omega arith) (told (c .before) ∙ w .0 .left) ∙ here .inv .1))
+          (c .if1 .came),
+    )
 
 returns : tie.Need-returns Inv-loop μ-loop
 unfolding freeOn givenSlices
-returns c = rw (← c .before .before .before .slice-count .ensures, ← c .before .loop .inv .1, ← put-end (freeSlice (c .before .before .before .before .args .g) (c .before .before .before .before .args .profile)) (c .before .before .before .slice-count .result) (c .before .before .before .before .args .owner) (c .before .loop .i) (c .before .loop .left) (c .before .loop .owners) (omega arith))
+returns c =
+    let here = c .before .loop in
+    let slice-count = c .before .before .before .slice-count in
+    let start = c .before .before .before .before .args in
+    rw (
+      ← slice-count .ensures,
+      ← here .inv .1,
+      ← put-end (freeSlice (start .g) (start .profile)) (slice-count .result) (start .owner) (here .i) (here .left) (here .owners) (omega arith),
+    )
 
 pub give-slices-spec : {M : Type 1} → statement M
 give-slices-spec =

@@ -29,7 +29,12 @@ may-cut-requires : tie.Need-may-cut-requires Inv-loop μ-loop
 may-cut-requires c κs = search needs
 
 returns : tie.Need-returns Inv-loop μ-loop
-returns c = idle-found (gpusOf (c .before .before .before .before .before .before .args .gpus .now)) (c .before .before .before .before .before .before .args .n) (c .before .before .before .before .before .lesser .result) (c .before .before .before .before .loop .i) (omega arith) (rw (← c .before .before .read-gpu .ensures) (sym (c .before .may-cut .ensures) ∙ c .if1 .taken)) (c .before .before .before .before .loop .inv .2)
+returns c =
+    let here = c .before .before .before .before .loop in
+    let lesser = c .before .before .before .before .before .lesser in
+    let start = c .before .before .before .before .before .before .args in
+    idle-found (gpusOf (start .gpus .now)) (start .n) (lesser .result) (here .i) (omega arith)
+    (rw (← c .before .before .read-gpu .ensures) (sym (c .before .may-cut .ensures) ∙ c .if1 .taken)) (here .inv .2)
 
 add-i : tie.Need-add-i Inv-loop μ-loop
 add-i c = search needs
@@ -38,10 +43,21 @@ loop-less : tie.Need-loop-less Inv-loop μ-loop
 loop-less c = omega arith
 
 loop-again : tie.Need-loop-again Inv-loop μ-loop
-loop-again c = (omega arith, omega arith, idle-next (gpusOf (c .before .before .before .before .before .before .args .gpus .now)) (c .before .before .before .before .before .before .args .n) (c .before .before .before .before .before .lesser .result) (c .before .before .before .before .loop .i) (omega arith) (rw (← c .before .before .read-gpu .ensures) (sym (c .before .may-cut .ensures) ∙ c .if1 .left)) (c .before .before .before .before .loop .inv .2))
+loop-again c =
+    let here = c .before .before .before .before .loop in
+    let lesser = c .before .before .before .before .before .lesser in
+    let start = c .before .before .before .before .before .before .args in (
+      omega arith,
+      omega arith,
+      idle-next (gpusOf (start .gpus .now)) (start .n) (lesser .result) (here .i) (omega arith)
+          (rw (← c .before .before .read-gpu .ensures) (sym (c .before .may-cut .ensures) ∙ c .if1 .left)) (here .inv .2),
+    )
 
 returns-2 : tie.Need-returns-2 Inv-loop μ-loop
-returns-2 c = idle-end (gpusOf (c .before .before .before .args .gpus .now)) (c .before .before .before .args .n) (c .before .before .lesser .result) (c .before .loop .i) (omega arith) (omega arith) (c .before .loop .inv .2)
+returns-2 c =
+    let here = c .before .loop in
+    let start = c .before .before .before .args in
+    idle-end (gpusOf (start .gpus .now)) (start .n) (c .before .before .lesser .result) (here .i) (omega arith) (omega arith) (here .inv .2)
 
 pub first-idle-spec : {M : Type 1} → statement M
 first-idle-spec =

@@ -44,10 +44,24 @@ loop-less : tie.Need-loop-less Inv-loop μ-loop
 loop-less c = omega arith
 
 loop-again : tie.Need-loop-again Inv-loop μ-loop
-loop-again c = let h : c .free-slices .result ≤ 7 = free-count _ _ (c .free-slices .ensures) in (omega arith, omega arith, omega arith, free-turn (gpusOf (c .before .before .before .before .before .before .args .gpus .now)) (c .before .before .before .before .before .before .args .profile) (c .before .before .before .loop .i) (c .before .before .before .loop .sum) (c .free-slices .result) noGpu (omega arith) (c .before .before .before .loop .inv .3) (rw (← c .before .read-gpu .ensures) (c .free-slices .ensures)))
+loop-again c =
+    let here = c .before .before .before .loop in
+    let start = c .before .before .before .before .before .before .args in
+    let h : c .free-slices .result ≤ 7 = free-count _ _ (c .free-slices .ensures) in (
+      omega arith,
+      omega arith,
+      omega arith,
+      free-turn (gpusOf (start .gpus .now)) (start .profile) (here .i) (here .sum) (c .free-slices .result)
+          noGpu (omega arith) (here .inv .3) (rw (← c .before .read-gpu .ensures) (c .free-slices .ensures)),
+    )
 
 returns : tie.Need-returns Inv-loop μ-loop
-returns c = c .before .loop .inv .3 ∙ free-end (gpusOf (c .before .before .before .before .args .gpus .now)) (c .before .before .before .before .args .n) (c .before .before .before .before .args .profile) (c .before .before .lesser .result) (c .before .loop .i) (c .before .before .lesser .ensures ∙ ap (min _) (c .before .before .before .gpu-places .ensures .0)) (omega arith) (omega arith)
+returns c =
+    let here = c .before .loop in
+    let lesser = c .before .before .lesser in
+    let start = c .before .before .before .before .args in
+    here .inv .3 ∙ free-end (gpusOf (start .gpus .now)) (start .n) (start .profile) (lesser .result) (here .i)
+    (lesser .ensures ∙ ap (min _) (c .before .before .before .gpu-places .ensures .0)) (omega arith) (omega arith)
 
 pub free-in-all-spec : {M : Type 1} → statement M
 free-in-all-spec =

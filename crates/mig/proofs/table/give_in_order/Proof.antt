@@ -12,7 +12,8 @@ use Rattle.mig.proofs.table.give_in_order.Statement.{statement}
 use Rattle.mig.proofs.table.give_in_order.Tie as tie
 
 abbrev Inv-loop : tie.InvT-loop
-Inv-loop gpus₀ n profile want owner except m left₀ i₀ gpus left i = (i ≤ m) × (take i (gpusOf gpus) ++ inOrder profile owner except left (m - i) i (drop i (gpusOf gpus)) ≡ givenInOrder (gpusOf gpus₀) n profile want owner except)
+Inv-loop gpus₀ n profile want owner except m left₀ i₀ gpus left i =
+    (i ≤ m) × (take i (gpusOf gpus) ++ inOrder profile owner except left (m - i) i (drop i (gpusOf gpus)) ≡ givenInOrder (gpusOf gpus₀) n profile want owner except)
 
 abbrev μ-loop : tie.MeasureT-loop
 μ-loop gpus₀ n profile want owner except m left₀ i₀ gpus left i = m - i
@@ -45,10 +46,25 @@ loop-less : tie.Need-loop-less Inv-loop μ-loop
 loop-less c = omega arith
 
 loop-again : tie.Need-loop-again Inv-loop μ-loop
-loop-again c = (omega arith, order-again (c .before .before .before .before .before .before .before .before .before .args .profile) (c .before .before .before .before .before .before .before .before .before .args .owner) (c .before .before .before .before .before .before .before .before .before .args .except) (c .before .before .before .before .before .before .before .loop .left) (c .before .before .before .before .before .before .before .before .lesser .result) (c .before .before .before .before .before .before .before .loop .i) (c .before .before .before .gives .result) (gpusOf (c .before .before .before .before .before .before .before .loop .gpus)) (gpusOf (c .write-gpu .last .0)) _ (c .before .before .before .before .read-gpu .result) (c .before .give-slices .result) (omega arith) (c .before .before .before .before .read-gpu .ensures) (c .before .before .before .gives .ensures) (c .before .give-slices .ensures) (c .write-gpu .ensures) (c .before .before .before .before .before .before .before .loop .inv .1))
+loop-again c =
+    let give-slices = c .before .give-slices in
+    let gives = c .before .before .before .gives in
+    let read-gpu = c .before .before .before .before .read-gpu in
+    let here = c .before .before .before .before .before .before .before .loop in
+    let lesser = c .before .before .before .before .before .before .before .before .lesser in
+    let start = c .before .before .before .before .before .before .before .before .before .args in (
+      omega arith,
+      order-again (start .profile) (start .owner) (start .except) (here .left) (lesser .result) (here .i) (gives .result)
+          (gpusOf (here .gpus)) (gpusOf (c .write-gpu .last .0)) _ (read-gpu .result) (give-slices .result) (omega arith) (read-gpu .ensures)
+          (gives .ensures) (give-slices .ensures) (c .write-gpu .ensures) (here .inv .1),
+    )
 
 returns : tie.Need-returns Inv-loop μ-loop
-returns c = order-end (c .before .before .before .args .profile) (c .before .before .before .args .owner) (c .before .before .before .args .except) (c .before .loop .left) (c .before .before .lesser .result) (c .before .loop .i) (gpusOf (c .before .loop .gpus)) (omega arith) ∙ c .before .loop .inv .1
+returns c =
+    let here = c .before .loop in
+    let start = c .before .before .before .args in
+    order-end (start .profile) (start .owner) (start .except) (here .left) (c .before .before .lesser .result) (here .i) (gpusOf (here .gpus))
+    (omega arith) ∙ here .inv .1
 
 pub give-in-order-spec : {M : Type 1} → statement M
 give-in-order-spec =

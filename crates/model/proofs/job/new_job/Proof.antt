@@ -1,7 +1,6 @@
 -- `model::job::new_job` meets its contract.
-use borrow.Author.Needs.{needs}
 use mathlib.Core.Path.{refl}
-use Rattle.model.specs.Job.{newJob, noJob}
+use Rattle.model.specs.Job.{newJob}
 use Rattle.model.proofs.job.new_job.Statement.{statement}
 use Rattle.model.proofs.job.new_job.Tie as tie
 

@@ -1,6 +1,6 @@
 -- `model::job::no_job` meets its contract.
 use borrow.Author.Needs.{needs}
-use Rattle.model.specs.Job.{newJob, noJob}
+use Rattle.model.specs.Job.{noJob}
 use Rattle.model.proofs.job.no_job.Statement.{statement}
 use Rattle.model.proofs.job.no_job.Tie as tie
 

@@ -1,5 +1,4 @@
 -- `model::number::bits_of` meets its contract.
-use borrow.Author.Needs.{needs}
 use mathlib.Core.Path.{refl}
 use lib.Ieee.{toBits}
 use Rattle.laws.specs.Floats.{eq-self, nan-of}

@@ -21,7 +21,9 @@ no-totals-requires c κs = search needs
 
 returns : tie.Need-returns
 unfolding emptyPlan
-returns c = rw (c .no-totals .ensures, c .before .empty-event .ensures, c .before .before .no-job .ensures, c .before .before .before .no-gpu .ensures, c .before .before .before .before .empty-setting .ensures)
+returns c =
+    let empty-setting = c .before .before .before .before .empty-setting in
+    rw (c .no-totals .ensures, c .before .empty-event .ensures, c .before .before .no-job .ensures, c .before .before .before .no-gpu .ensures, empty-setting .ensures)
 
 pub empty-plan-spec : {M : Type 1} → statement M
 empty-plan-spec =

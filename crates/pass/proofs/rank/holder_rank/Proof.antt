@@ -18,10 +18,17 @@ add-result : tie.Need-add-result
 add-result c = search needs
 
 returns : tie.Need-returns
-returns c = holder-leaves (c .before .before .before .before .before .before .args .j) (c .before .before .both .result) (c .before .before .both .ensures ∙ rw (c .before .before .before .before .is-running .ensures)) (c .before .if1 .taken)
+returns c =
+    let both = c .before .before .both in
+    let is-running = c .before .before .before .before .is-running in
+    let start = c .before .before .before .before .before .before .args in
+    holder-leaves (start .j) (both .result) (both .ensures ∙ rw (is-running .ensures)) (c .before .if1 .taken)
 
 returns-2 : tie.Need-returns-2
-returns-2 c = holder-barred (c .before .before .before .before .before .args .j) (c .before .both .result) (c .before .both .ensures ∙ rw (c .before .before .before .is-running .ensures)) (c .if1 .left)
+returns-2 c =
+    let both = c .before .both in
+    let start = c .before .before .before .before .before .args in
+    holder-barred (start .j) (both .result) (both .ensures ∙ rw (c .before .before .before .is-running .ensures)) (c .if1 .left)
 
 pub holder-rank-spec : {M : Type 1} → statement M
 holder-rank-spec =

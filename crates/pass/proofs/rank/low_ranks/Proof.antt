@@ -40,15 +40,20 @@ loop-less c = omega arith
 
 loop-again : tie.Need-loop-again Inv-loop μ-loop
 loop-again c =
-    let f : (c .if1 .k ≤ c .before .before .before .loop .i + 1) × (c .if1 .k ≡ length (those (lowAt (c .before .before .before .before .before .before .args .ranks .now) (c .before .before .before .before .before .before .args .priority)) (c .before .before .before .loop .i + 1) 0)) =
+    let here = c .before .before .before .loop in
+    let start = c .before .before .before .before .before .before .args in
+    let f : (c .if1 .k ≤ here .i + 1) × (c .if1 .k ≡ length (those (lowAt (start .ranks .now) (start .priority)) (here .i + 1) 0)) =
     ⊎-elim
-    (λ w. (omega arith, w .1 ∙ low-take (c .before .before .before .before .before .before .args .ranks .now) (c .before .before .before .before .before .before .args .priority) (c .before .before .before .loop .i) (c .before .before .before .loop .k) (omega arith) (w .0 .taken) (c .before .before .before .loop .inv .3)))
-    (λ w. (omega arith, w .1 ∙ low-skip (c .before .before .before .before .before .before .args .ranks .now) (c .before .before .before .before .before .before .args .priority) (c .before .before .before .loop .i) (c .before .before .before .loop .k) (omega arith) (w .0 .left) (c .before .before .before .loop .inv .3)))
+    (λ w. (omega arith, w .1 ∙ low-take (start .ranks .now) (start .priority) (here .i) (here .k) (omega arith) (w .0 .taken) (here .inv .3)))
+    (λ w. (omega arith, w .1 ∙ low-skip (start .ranks .now) (start .priority) (here .i) (here .k) (omega arith) (w .0 .left) (here .inv .3)))
     (c .if1 .came) in
-    (omega arith, c .before .before .before .loop .inv .1, f .0, f .1)
+    (omega arith, here .inv .1, f .0, f .1)
 
 returns : tie.Need-returns Inv-loop μ-loop
-returns c = c .before .loop .inv .3 ∙ low-end (c .before .before .before .before .args .ranks .now) (c .before .before .before .before .args .n) (c .before .before .before .before .args .priority) (c .before .before .lesser .result) (c .before .loop .i) (c .before .loop .inv .1) (omega arith)
+returns c =
+    let here = c .before .loop in
+    let start = c .before .before .before .before .args in
+    here .inv .3 ∙ low-end (start .ranks .now) (start .n) (start .priority) (c .before .before .lesser .result) (here .i) (here .inv .1) (omega arith)
 
 pub low-ranks-spec : {M : Type 1} → statement M
 low-ranks-spec =

@@ -22,7 +22,10 @@ holder-rank-requires : tie.Need-holder-rank-requires
 holder-rank-requires c κs = search needs
 
 returns-2 : tie.Need-returns-2
-returns-2 c = rank-held (jobsOf (c .before .before .before .before .args .jobs .now)) (c .before .before .before .before .args .owner) _ (c .before .before .before .if1 .left) (c .holder-rank .ensures ∙ rw (c .before .read-job .ensures, c .before .before .wide-id .ensures))
+returns-2 c =
+    let start = c .before .before .before .before .args in
+    rank-held (jobsOf (start .jobs .now)) (start .owner) _ (c .before .before .before .if1 .left)
+    (c .holder-rank .ensures ∙ rw (c .before .read-job .ensures, c .before .before .wide-id .ensures))
 
 pub rank-of-spec : {M : Type 1} → statement M
 rank-of-spec =

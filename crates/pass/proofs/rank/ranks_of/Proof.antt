@@ -15,7 +15,8 @@ use Rattle.pass.proofs.rank.ranks_of.Statement.{statement}
 use Rattle.pass.proofs.rank.ranks_of.Tie as tie
 
 abbrev Inv-loop : tie.InvT-loop
-Inv-loop gpus jobs n m ranks₀ i₀ ranks i = (i ≤ m) × (m ≡ min n 128) × (length (gpusOf gpus) ≡ 128) × (ranks ≡ pad 128 0 (map (gpuRank (jobsOf jobs)) (take i (gpusOf gpus))))
+Inv-loop gpus jobs n m ranks₀ i₀ ranks i =
+    (i ≤ m) × (m ≡ min n 128) × (length (gpusOf gpus) ≡ 128) × (ranks ≡ pad 128 0 (map (gpuRank (jobsOf jobs)) (take i (gpusOf gpus))))
 
 abbrev μ-loop : tie.MeasureT-loop
 μ-loop gpus jobs n m ranks₀ i₀ ranks i = m - i
@@ -48,7 +49,15 @@ loop-less : tie.Need-loop-less Inv-loop μ-loop
 loop-less c = omega arith
 
 loop-again : tie.Need-loop-again Inv-loop μ-loop
-loop-again c = (omega arith, c .before .before .before .loop .inv .1, c .before .before .before .loop .inv .2, rw (c .rank-of .ensures, c .before .read-gpu .ensures) (map-turn (gpuRank (jobsOf (c .before .before .before .before .before .before .args .jobs .now))) (c .before .before .before .loop .ranks) (gpusOf (c .before .before .before .before .before .before .args .gpus .now)) (c .before .before .before .loop .i) noGpu (omega arith) (omega arith) (c .before .before .before .loop .inv .3)))
+loop-again c =
+    let here = c .before .before .before .loop in
+    let start = c .before .before .before .before .before .before .args in (
+      omega arith,
+      here .inv .1,
+      here .inv .2,
+      rw (c .rank-of .ensures, c .before .read-gpu .ensures)
+          (map-turn (gpuRank (jobsOf (start .jobs .now))) (here .ranks) (gpusOf (start .gpus .now)) (here .i) noGpu (omega arith) (omega arith) (here .inv .3)),
+    )
 
 returns : tie.Need-returns Inv-loop μ-loop
 unfolding ranksOf

@@ -14,7 +14,9 @@ cast-result : tie.Need-cast-result
 cast-result c = search needs
 
 returns : tie.Need-returns
-returns c = low-in (c .before .before .before .args .ranks .now) (c .before .before .before .args .ask .priority) (c .before .before .before .args .i) (c .before .before .if1 .taken)
+returns c =
+    let start = c .before .before .before .args in
+    low-in (start .ranks .now) (start .ask .priority) (start .i) (c .before .before .if1 .taken)
 
 returns-2 : tie.Need-returns-2
 returns-2 c = low-past (c .before .args .ranks .now) (c .before .args .ask .priority) (c .before .args .i) (c .if1 .left)

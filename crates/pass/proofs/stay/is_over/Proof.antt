@@ -18,7 +18,10 @@ quota-at-requires : tie.Need-quota-at-requires
 quota-at-requires c κs = search needs
 
 returns-2 : tie.Need-returns-2
-returns-2 c = over-no-entry (c .before .before .before .before .before .before .before .args .setting) (jobsOf (c .before .before .before .before .before .before .before .args .jobs .now)) (c .before .before .before .before .before .before .before .args .ask) (c .before .before .before .before .before .if1 .left) (rw (c .before .quota-at .ensures) at (c .if2 .taken))
+returns-2 c =
+    let if1 = c .before .before .before .before .before .if1 in
+    let start = c .before .before .before .before .before .before .before .args in
+    over-no-entry (start .setting) (jobsOf (start .jobs .now)) (start .ask) (if1 .left) (rw (c .before .quota-at .ensures) at (c .if2 .taken))
 
 cast-used-at-least : tie.Need-cast-used-at-least
 cast-used-at-least c = search needs
@@ -27,7 +30,13 @@ used-at-least-requires : tie.Need-used-at-least-requires
 used-at-least-requires c κs = search needs
 
 returns-3 : tie.Need-returns-3
-returns-3 c = over-spent (c .before .before .before .before .before .before .before .before .before .before .args .setting) (jobsOf (c .before .before .before .before .before .before .before .before .before .before .args .jobs .now)) (c .before .before .before .before .before .before .before .before .before .before .args .ask) (c .before .before .before .before .before .before .before .before .if1 .left) (rw (c .before .before .before .before .quota-at .ensures) at (c .before .before .before .if2 .left)) (c .before .used-at-least .result) (c .before .used-at-least .ensures) (rw (c .before .before .before .before .quota-at .ensures) at (c .if3 .taken))
+returns-3 c =
+    let used-at-least = c .before .used-at-least in
+    let quota-at = c .before .before .before .before .quota-at in
+    let if1 = c .before .before .before .before .before .before .before .before .if1 in
+    let start = c .before .before .before .before .before .before .before .before .before .before .args in
+    over-spent (start .setting) (jobsOf (start .jobs .now)) (start .ask) (if1 .left)
+    (rw (quota-at .ensures) at (c .before .before .before .if2 .left)) (used-at-least .result) (used-at-least .ensures) (rw (quota-at .ensures) at (c .if3 .taken))
 
 sub-result : tie.Need-sub-result
 sub-result c = search needs
@@ -37,8 +46,14 @@ cast-result c = search needs
 
 returns-4 : tie.Need-returns-4
 returns-4 c =
-    rw (c .before .before .before .before .before .quota-at .ensures)
-    (over-left (c .before .before .before .before .before .before .before .before .before .before .before .args .setting) (jobsOf (c .before .before .before .before .before .before .before .before .before .before .before .args .jobs .now)) (c .before .before .before .before .before .before .before .before .before .before .before .args .ask) (c .before .before .before .before .before .before .before .before .before .if1 .left) (rw (c .before .before .before .before .before .quota-at .ensures) at (c .before .before .before .before .if2 .left)) (c .before .before .used-at-least .result) (c .before .before .used-at-least .ensures) (rw (c .before .before .before .before .before .quota-at .ensures) at (c .before .if3 .left)))
+    let used-at-least = c .before .before .used-at-least in
+    let if2 = c .before .before .before .before .if2 in
+    let quota-at = c .before .before .before .before .before .quota-at in
+    let if1 = c .before .before .before .before .before .before .before .before .before .if1 in
+    let start = c .before .before .before .before .before .before .before .before .before .before .before .args in
+    rw (quota-at .ensures)
+    (over-left (start .setting) (jobsOf (start .jobs .now)) (start .ask) (if1 .left) (rw (quota-at .ensures) at (if2 .left)) (used-at-least .result)
+    (used-at-least .ensures) (rw (quota-at .ensures) at (c .before .if3 .left)))
 
 pub is-over-spec : {M : Type 1} → statement M
 is-over-spec =

@@ -22,10 +22,18 @@ eligible-gpu-requires : tie.Need-eligible-gpu-requires
 eligible-gpu-requires c κs = search needs
 
 returns : tie.Need-returns
-returns c = reach-could (c .before .before .before .before .before .before .args .aware) (c .before .before .before .before .before .before .args .sites) (jobsOf (c .before .before .before .before .before .before .args .jobs .now)) (c .before .before .before .before .before .before .args .ask) (c .before .before .before .before .before .before .args .g) (c .eligible-gpu .result) (sym (c .before .before .before .before .before .may-be-free .ensures) ∙ c .before .before .before .before .if1 .taken) (rw (c .before .with-owner .ensures, c .before .before .site-at .ensures, c .before .before .before .wide .ensures) at (c .eligible-gpu .ensures))
+returns c =
+    let if1 = c .before .before .before .before .if1 in
+    let may-be-free = c .before .before .before .before .before .may-be-free in
+    let start = c .before .before .before .before .before .before .args in
+    reach-could (start .aware) (start .sites) (jobsOf (start .jobs .now)) (start .ask) (start .g) (c .eligible-gpu .result)
+    (sym (may-be-free .ensures) ∙ if1 .taken)
+    (rw (c .before .with-owner .ensures, c .before .before .site-at .ensures, c .before .before .before .wide .ensures) at (c .eligible-gpu .ensures))
 
 returns-2 : tie.Need-returns-2
-returns-2 c = reach-not (c .before .before .args .aware) (c .before .before .args .sites) (jobsOf (c .before .before .args .jobs .now)) (c .before .before .args .ask) (c .before .before .args .g) (sym (c .before .may-be-free .ensures) ∙ c .if1 .left)
+returns-2 c =
+    let start = c .before .before .args in
+    reach-not (start .aware) (start .sites) (jobsOf (start .jobs .now)) (start .ask) (start .g) (sym (c .before .may-be-free .ensures) ∙ c .if1 .left)
 
 pub is-reachable-spec : {M : Type 1} → statement M
 is-reachable-spec =

@@ -24,7 +24,12 @@ cast-if1 : tie.Need-cast-if1
 cast-if1 c = search needs
 
 returns : tie.Need-returns
-returns c = low-short (c .before .before .before .before .before .before .args .setting) (gpusOf (c .before .before .before .before .before .before .args .gpus .now)) (jobsOf (c .before .before .before .before .before .before .args .jobs .now)) (c .before .before .before .before .before .before .args .ask) (c .before .before .before .before .before .before .args .ranks .now) (c .before .before .low-ranks .result) (c .before .before .before .before .before .before .pre) (c .before .before .low-ranks .ensures) (c .if1 .taken)
+returns c =
+    let low-ranks = c .before .before .low-ranks in
+    let start = c .before .before .before .before .before .before .args in
+    let pre = c .before .before .before .before .before .before .pre in
+    low-short (start .setting) (gpusOf (start .gpus .now)) (jobsOf (start .jobs .now)) (start .ask) (start .ranks .now) (low-ranks .result) pre
+    (low-ranks .ensures) (c .if1 .taken)
 
 within-reach-requires : tie.Need-within-reach-requires
 within-reach-requires c κs = search needs
@@ -39,7 +44,14 @@ is-enough-requires : tie.Need-is-enough-requires
 is-enough-requires c κs = search needs
 
 returns-2 : tie.Need-returns-2
-returns-2 c = ap not (c .is-enough .ensures) ∙ short-looked (c .before .before .before .before .before .before .before .before .before .before .before .before .args .setting) (gpusOf (c .before .before .before .before .before .before .before .before .before .before .before .before .args .gpus .now)) (jobsOf (c .before .before .before .before .before .before .before .before .before .before .before .before .args .jobs .now)) (c .before .before .before .before .before .before .before .before .before .before .before .before .args .ask) (c .before .why-not .result) (c .before .before .keys-for .result) (listOf (c .before .before .before .within-reach .result)) (c .before .why-not .ensures) (c .before .before .keys-for .ensures (listOf (c .before .before .before .within-reach .result))) (held _ _ (c .before .before .before .within-reach .ensures) .0)
+returns-2 c =
+    let why-not = c .before .why-not in
+    let keys-for = c .before .before .keys-for in
+    let within-reach = c .before .before .before .within-reach in
+    let start = c .before .before .before .before .before .before .before .before .before .before .before .before .args in
+    ap not (c .is-enough .ensures) ∙ short-looked (start .setting) (gpusOf (start .gpus .now)) (jobsOf (start .jobs .now)) (start .ask)
+    (why-not .result) (keys-for .result) (listOf (within-reach .result)) (why-not .ensures) (keys-for .ensures (listOf (within-reach .result)))
+    (held _ _ (within-reach .ensures) .0)
 
 pub is-short-spec : {M : Type 1} → statement M
 is-short-spec =

@@ -22,7 +22,10 @@ is-candidate-requires : tie.Need-is-candidate-requires
 is-candidate-requires c κs = search needs
 
 returns-2 : tie.Need-returns-2
-returns-2 c = free-then (c .before .before .before .before .args .aware) (jobsOf (c .before .before .before .before .args .jobs .now)) (c .before .before .before .before .args .ask) (c .before .before .before .before .args .owner) _ (c .before .before .before .if1 .left) (c .is-candidate .ensures ∙ rw (c .before .read-job .ensures, c .before .before .wide-id .ensures))
+returns-2 c =
+    let start = c .before .before .before .before .args in
+    free-then (start .aware) (jobsOf (start .jobs .now)) (start .ask) (start .owner) _ (c .before .before .before .if1 .left)
+    (c .is-candidate .ensures ∙ rw (c .before .read-job .ensures, c .before .before .wide-id .ensures))
 
 pub may-be-free-spec : {M : Type 1} → statement M
 may-be-free-spec =

@@ -22,7 +22,14 @@ whole-stays-requires : tie.Need-whole-stays-requires
 whole-stays-requires c κs = search needs
 
 returns : tie.Need-returns
-returns c = c .whole-stays .ensures ∙ stay-whole (c .before .before .before .before .before .before .before .before .args .setting) (gpusOf (c .before .before .before .before .before .before .before .before .args .gpus .now)) (jobsOf (c .before .before .before .before .before .before .before .before .args .jobs .now)) (c .before .before .before .before .before .before .before .before .args .id) (c .before .before .before .before .before .before .read-job .result) (c .before .before .before .before .before .before .read-job .ensures ∙ rw (c .before .before .before .before .before .before .before .wide-id .ensures)) (sym (c .before .before .before .before .before .is-waiting .ensures) ∙ c .before .before .before .before .if1 .taken) (c .before .if2 .taken)
+returns c =
+    let if1 = c .before .before .before .before .if1 in
+    let is-waiting = c .before .before .before .before .before .is-waiting in
+    let read-job = c .before .before .before .before .before .before .read-job in
+    let wide-id = c .before .before .before .before .before .before .before .wide-id in
+    let start = c .before .before .before .before .before .before .before .before .args in
+    c .whole-stays .ensures ∙ stay-whole (start .setting) (gpusOf (start .gpus .now)) (jobsOf (start .jobs .now)) (start .id) (read-job .result)
+    (read-job .ensures ∙ rw (wide-id .ensures)) (sym (is-waiting .ensures) ∙ if1 .taken) (c .before .if2 .taken)
 
 resource-cause-requires : tie.Need-resource-cause-requires
 resource-cause-requires c κs = search needs
@@ -31,10 +38,22 @@ is-none-requires : tie.Need-is-none-requires
 is-none-requires c κs = search needs
 
 returns-2 : tie.Need-returns-2
-returns-2 c = ap not (c .is-none .ensures ∙ ap isNone (c .before .resource-cause .ensures)) ∙ stay-mig (c .before .before .before .before .before .before .before .before .before .args .setting) (gpusOf (c .before .before .before .before .before .before .before .before .before .args .gpus .now)) (jobsOf (c .before .before .before .before .before .before .before .before .before .args .jobs .now)) (c .before .before .before .before .before .before .before .before .before .args .id) (c .before .before .before .before .before .before .before .read-job .result) (c .before .before .before .before .before .before .before .read-job .ensures ∙ rw (c .before .before .before .before .before .before .before .before .wide-id .ensures)) (sym (c .before .before .before .before .before .before .is-waiting .ensures) ∙ c .before .before .before .before .before .if1 .taken) (c .before .before .if2 .left)
+returns-2 c =
+    let if1 = c .before .before .before .before .before .if1 in
+    let is-waiting = c .before .before .before .before .before .before .is-waiting in
+    let read-job = c .before .before .before .before .before .before .before .read-job in
+    let wide-id = c .before .before .before .before .before .before .before .before .wide-id in
+    let start = c .before .before .before .before .before .before .before .before .before .args in
+    ap not (c .is-none .ensures ∙ ap isNone (c .before .resource-cause .ensures))
+    ∙ stay-mig (start .setting) (gpusOf (start .gpus .now)) (jobsOf (start .jobs .now)) (start .id) (read-job .result)
+    (read-job .ensures ∙ rw (wide-id .ensures)) (sym (is-waiting .ensures) ∙ if1 .taken) (c .before .before .if2 .left)
 
 returns-3 : tie.Need-returns-3
-returns-3 c = stay-other (c .before .before .before .before .args .setting) (gpusOf (c .before .before .before .before .args .gpus .now)) (jobsOf (c .before .before .before .before .args .jobs .now)) (c .before .before .before .before .args .id) (c .before .before .read-job .result) (c .before .before .read-job .ensures ∙ rw (c .before .before .before .wide-id .ensures)) (sym (c .before .is-waiting .ensures) ∙ c .if1 .left)
+returns-3 c =
+    let read-job = c .before .before .read-job in
+    let start = c .before .before .before .before .args in
+    stay-other (start .setting) (gpusOf (start .gpus .now)) (jobsOf (start .jobs .now)) (start .id) (read-job .result)
+    (read-job .ensures ∙ rw (c .before .before .before .wide-id .ensures)) (sym (c .before .is-waiting .ensures) ∙ c .if1 .left)
 
 pub stays-spec : {M : Type 1} → statement M
 stays-spec =

@@ -45,10 +45,24 @@ loop-less : tie.Need-loop-less Inv-loop μ-loop
 loop-less c = omega arith
 
 loop-again : tie.Need-loop-again Inv-loop μ-loop
-loop-again c = (omega arith, omega arith, omega arith, used-turn (c .before .before .before .before .before .before .args .aware) (jobsOf (c .before .before .before .before .before .before .args .jobs .now)) (c .before .before .before .before .before .before .args .ask) (c .before .before .before .loop .i) (c .before .before .before .loop .sum) (c .kept-charge .result) (c .before .read-job .result) (omega arith) (c .before .before .before .loop .inv .3) (c .before .read-job .ensures) (c .kept-charge .ensures))
+loop-again c =
+    let read-job = c .before .read-job in
+    let here = c .before .before .before .loop in
+    let start = c .before .before .before .before .before .before .args in (
+      omega arith,
+      omega arith,
+      omega arith,
+      used-turn (start .aware) (jobsOf (start .jobs .now)) (start .ask) (here .i) (here .sum)
+          (c .kept-charge .result) (read-job .result) (omega arith) (here .inv .3) (read-job .ensures) (c .kept-charge .ensures),
+    )
 
 returns : tie.Need-returns Inv-loop μ-loop
-returns c = c .before .loop .inv .3 ∙ used-end (c .before .before .before .before .args .aware) (jobsOf (c .before .before .before .before .args .jobs .now)) (c .before .before .before .before .args .ask) (c .before .before .before .before .args .n) (c .before .before .lesser .result) (c .before .loop .i) (c .before .before .lesser .ensures ∙ ap (min _) (c .before .before .before .job-places .ensures .0)) (omega arith) (omega arith)
+returns c =
+    let here = c .before .loop in
+    let lesser = c .before .before .lesser in
+    let start = c .before .before .before .before .args in
+    here .inv .3 ∙ used-end (start .aware) (jobsOf (start .jobs .now)) (start .ask) (start .n) (lesser .result) (here .i)
+    (lesser .ensures ∙ ap (min _) (c .before .before .before .job-places .ensures .0)) (omega arith) (omega arith)
 
 pub used-at-least-spec : {M : Type 1} → statement M
 used-at-least-spec =

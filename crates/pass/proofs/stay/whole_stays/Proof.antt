@@ -11,13 +11,18 @@ is-short-requires : tie.Need-is-short-requires
 is-short-requires c κs = search needs
 
 returns : tie.Need-returns
-returns c = whole-short (c .before .before .args .setting) (gpusOf (c .before .before .args .gpus .now)) (jobsOf (c .before .before .args .jobs .now)) (c .before .before .args .ask) (sym (c .before .is-short .ensures) ∙ c .if1 .taken)
+returns c =
+    let start = c .before .before .args in
+    whole-short (start .setting) (gpusOf (start .gpus .now)) (jobsOf (start .jobs .now)) (start .ask) (sym (c .before .is-short .ensures) ∙ c .if1 .taken)
 
 is-over-requires : tie.Need-is-over-requires
 is-over-requires c κs = search needs
 
 returns-2 : tie.Need-returns-2
-returns-2 c = c .is-over .ensures ∙ whole-enough (c .before .before .before .args .setting) (gpusOf (c .before .before .before .args .gpus .now)) (jobsOf (c .before .before .before .args .jobs .now)) (c .before .before .before .args .ask) (sym (c .before .before .is-short .ensures) ∙ c .before .if1 .left)
+returns-2 c =
+    let start = c .before .before .before .args in
+    c .is-over .ensures ∙ whole-enough (start .setting) (gpusOf (start .gpus .now)) (jobsOf (start .jobs .now)) (start .ask)
+    (sym (c .before .before .is-short .ensures) ∙ c .before .if1 .left)
 
 pub whole-stays-spec : {M : Type 1} → statement M
 whole-stays-spec = tie.close (tie.spec is-short-requires returns is-over-requires returns-2)

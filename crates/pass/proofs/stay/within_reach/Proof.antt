@@ -14,7 +14,8 @@ use Rattle.pass.proofs.stay.within_reach.Statement.{statement}
 use Rattle.pass.proofs.stay.within_reach.Tie as tie
 
 abbrev Inv-loop : tie.InvT-loop
-Inv-loop aware gpus n sites jobs ranks ask m ids₀ k₀ i₀ ids k i = (i ≤ m) × (m ≡ min n 128) × (k ≤ i) × Kept ids k (those (reachableAt aware sites (jobsOf jobs) ask (gpusOf gpus)) i 0)
+Inv-loop aware gpus n sites jobs ranks ask m ids₀ k₀ i₀ ids k i =
+    (i ≤ m) × (m ≡ min n 128) × (k ≤ i) × Kept ids k (those (reachableAt aware sites (jobsOf jobs) ask (gpusOf gpus)) i 0)
 
 abbrev μ-loop : tie.MeasureT-loop
 μ-loop aware gpus n sites jobs ranks ask m ids₀ k₀ i₀ ids k i = m - i
@@ -58,15 +59,25 @@ loop-less c = omega arith
 
 loop-again : tie.Need-loop-again Inv-loop μ-loop
 loop-again c =
-    let f : Kept (c .if1 .ids) (c .if1 .k) (those (reachableAt (c .before .before .before .before .before .before .before .args .aware) (c .before .before .before .before .before .before .before .args .sites) (jobsOf (c .before .before .before .before .before .before .before .args .jobs .now)) (c .before .before .before .before .before .before .before .args .ask) (gpusOf (c .before .before .before .before .before .before .before .args .gpus .now))) (c .before .before .before .before .loop .i + 1) 0) =
+    let here = c .before .before .before .before .loop in
+    let start = c .before .before .before .before .before .before .before .args in
+    let pre = c .before .before .before .before .before .before .before .pre in
+    let f : Kept (c .if1 .ids) (c .if1 .k) (those
+    (reachableAt (start .aware) (start .sites) (jobsOf (start .jobs .now)) (start .ask) (gpusOf (start .gpus .now))) (here .i + 1) 0) =
     ⊎-elim
-    (λ w. rw (w .4, w .5) (those-turn-take _ _ _ _ (omega arith) (reach-read (c .before .before .before .before .before .before .before .args .aware) (c .before .before .before .before .before .before .before .args .sites) (jobsOf (c .before .before .before .before .before .before .before .args .jobs .now)) (c .before .before .before .before .before .before .before .args .ask) (gpusOf (c .before .before .before .before .before .before .before .args .gpus .now)) (c .before .before .before .before .loop .i) (w .1 .result) (w .2 .result) (w .1 .ensures) (w .2 .ensures) ∙ w .3 .taken) (c .before .before .before .before .loop .inv .3)))
+    (λ w. rw (w .4, w .5) (those-turn-take _ _ _ _ (omega arith)
+    (reach-read (start .aware) (start .sites) (jobsOf (start .jobs .now)) (start .ask) (gpusOf (start .gpus .now)) (here .i) (w .1 .result)
+    (w .2 .result) (w .1 .ensures) (w .2 .ensures) ∙ w .3 .taken) (here .inv .3)))
     (λ v. ⊎-elim
-    (λ w. rw (w .4, w .5) (those-turn-skip _ _ _ _ (reach-read (c .before .before .before .before .before .before .before .args .aware) (c .before .before .before .before .before .before .before .args .sites) (jobsOf (c .before .before .before .before .before .before .before .args .jobs .now)) (c .before .before .before .before .before .before .before .args .ask) (gpusOf (c .before .before .before .before .before .before .before .args .gpus .now)) (c .before .before .before .before .loop .i) (w .1 .result) (w .2 .result) (w .1 .ensures) (w .2 .ensures) ∙ w .3 .left) (c .before .before .before .before .loop .inv .3)))
-    (λ w. rw (w .1, w .2) (those-turn-skip _ _ _ _ (high-out (c .before .before .before .before .before .before .before .args .aware) (gpusOf (c .before .before .before .before .before .before .before .args .gpus .now)) (c .before .before .before .before .before .before .before .args .n) (c .before .before .before .before .before .before .before .args .sites) (jobsOf (c .before .before .before .before .before .before .before .args .jobs .now)) (c .before .before .before .before .before .before .before .args .ask) (c .before .before .before .before .before .before .before .args .ranks .now) (c .before .before .before .before .before .before .before .pre) (c .before .before .before .before .loop .i) (omega arith) (sym (c .before .is-low .ensures) ∙ w .0 .left)) (c .before .before .before .before .loop .inv .3)))
+    (λ w. rw (w .4, w .5) (those-turn-skip _ _ _ _
+    (reach-read (start .aware) (start .sites) (jobsOf (start .jobs .now)) (start .ask) (gpusOf (start .gpus .now)) (here .i) (w .1 .result)
+    (w .2 .result) (w .1 .ensures) (w .2 .ensures) ∙ w .3 .left) (here .inv .3)))
+    (λ w. rw (w .1, w .2) (those-turn-skip _ _ _ _
+    (high-out (start .aware) (gpusOf (start .gpus .now)) (start .n) (start .sites) (jobsOf (start .jobs .now)) (start .ask) (start .ranks .now)
+    pre (here .i) (omega arith) (sym (c .before .is-low .ensures) ∙ w .0 .left)) (here .inv .3)))
     v)
     (c .if1 .came) in
-    (omega arith, c .before .before .before .before .loop .inv .1, those-size _ _ _ _ f, f)
+    (omega arith, here .inv .1, those-size _ _ _ _ f, f)
 
 returns : tie.Need-returns Inv-loop μ-loop
 unfolding reachables

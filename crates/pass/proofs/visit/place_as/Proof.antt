@@ -21,7 +21,9 @@ onward-requires c κs = search needs
 
 returns : tie.Need-returns
 unfolding placedAs
-returns c = λ gpus. rw (c .onward .ensures, c .before .put-placing .ensures, c .before .before .write-job .ensures, c .before .before .before .place .ensures, c .before .before .before .before .wide-id .ensures)
+returns c =
+    let wide-id = c .before .before .before .before .wide-id in
+    λ gpus. rw (c .onward .ensures, c .before .put-placing .ensures, c .before .before .write-job .ensures, c .before .before .before .place .ensures, wide-id .ensures)
 
 pub place-as-spec : {M : Type 1} → statement M
 place-as-spec =

@@ -18,7 +18,10 @@ settle-requires : tie.Need-settle-requires
 settle-requires c κs = search needs
 
 returns-2 : tie.Need-returns-2
-returns-2 c = preempting-way _ _ _ _ _ _ (c .before .before .before .before .before .before .before .preempt .ensures) _ _ _ _ (c .before .before .before .before .before .if1 .left) (c .before .before .before .make-way .ensures (c .before .before .before .before .before .before .before .preempt .last .1 .1 .0)) (c .settle .ensures)
+returns-2 c =
+    let if1 = c .before .before .before .before .before .if1 in
+    let preempt = c .before .before .before .before .before .before .before .preempt in
+    preempting-way _ _ _ _ _ _ (preempt .ensures) _ _ _ _ (if1 .left) (c .before .before .before .make-way .ensures (preempt .last .1 .1 .0)) (c .settle .ensures)
 
 pub preempt-for-spec : {M : Type 1} → statement M
 preempt-for-spec =

@@ -16,10 +16,15 @@ place-as-requires : tie.Need-place-as-requires
 place-as-requires c κs = search needs
 
 returns : tie.Need-returns
-returns c = settled-given _ _ _ _ _ (c .before .before .before .allocate .ensures ∙ rw (c .before .before .before .before .plus-one .ensures)) _ _ (c .before .before .if1 .taken) (c .place-as .ensures (c .before .before .before .allocate .last .1 .0))
+returns c =
+    let allocate = c .before .before .before .allocate in
+    let plus-one = c .before .before .before .before .plus-one in
+    settled-given _ _ _ _ _ (allocate .ensures ∙ rw (plus-one .ensures)) _ _ (c .before .before .if1 .taken) (c .place-as .ensures (allocate .last .1 .0))
 
 returns-2 : tie.Need-returns-2
-returns-2 c = settled-none _ _ _ _ (wholeAllocation (c .before .allocate .result) (c .before .allocate .last .1 .0)) (c .before .allocate .ensures ∙ rw (c .before .before .plus-one .ensures)) (c .if1 .left)
+returns-2 c =
+    let allocate = c .before .allocate in
+    settled-none _ _ _ _ (wholeAllocation (allocate .result) (allocate .last .1 .0)) (allocate .ensures ∙ rw (c .before .before .plus-one .ensures)) (c .if1 .left)
 
 pub settle-spec : {M : Type 1} → statement M
 settle-spec = tie.close (tie.spec plus-one-requires allocate-requires place-as-requires returns returns-2)

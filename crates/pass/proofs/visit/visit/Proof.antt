@@ -18,16 +18,28 @@ is-among-requires : tie.Need-is-among-requires
 is-among-requires c κs = search needs
 
 returns : tie.Need-returns
-returns c = visited-victim _ _ _ _ _ (c .before .before .before .before .read-job .ensures ∙ rw (c .before .before .before .before .before .wide-id .ensures)) (sym (c .before .before .before .is-waiting .ensures) ∙ c .before .before .if1 .taken) (sym (c .before .is-among .ensures) ∙ c .if2 .taken)
+returns c =
+    let read-job = c .before .before .before .before .read-job in
+    let wide-id = c .before .before .before .before .before .wide-id in
+    visited-victim _ _ _ _ _ (read-job .ensures ∙ rw (wide-id .ensures))
+    (sym (c .before .before .before .is-waiting .ensures) ∙ c .before .before .if1 .taken) (sym (c .before .is-among .ensures) ∙ c .if2 .taken)
 
 consider-requires : tie.Need-consider-requires
 consider-requires c κs = search needs
 
 returns-2 : tie.Need-returns-2
-returns-2 c = visited-waiting _ _ _ _ _ (c .before .before .before .before .before .before .before .read-job .ensures ∙ rw (c .before .before .before .before .before .before .before .before .wide-id .ensures)) _ (sym (c .before .before .before .before .before .before .is-waiting .ensures) ∙ c .before .before .before .before .before .if1 .taken) (sym (c .before .before .before .before .is-among .ensures) ∙ c .before .before .before .if2 .left) (c .consider .ensures)
+returns-2 c =
+    let is-among = c .before .before .before .before .is-among in
+    let if1 = c .before .before .before .before .before .if1 in
+    let is-waiting = c .before .before .before .before .before .before .is-waiting in
+    let read-job = c .before .before .before .before .before .before .before .read-job in
+    let wide-id = c .before .before .before .before .before .before .before .before .wide-id in
+    visited-waiting _ _ _ _ _ (read-job .ensures ∙ rw (wide-id .ensures)) _ (sym (is-waiting .ensures) ∙ if1 .taken)
+    (sym (is-among .ensures) ∙ c .before .before .before .if2 .left) (c .consider .ensures)
 
 returns-3 : tie.Need-returns-3
-returns-3 c = visited-other _ _ _ _ _ (c .before .before .read-job .ensures ∙ rw (c .before .before .before .wide-id .ensures)) (sym (c .before .is-waiting .ensures) ∙ c .if1 .left)
+returns-3 c = visited-other _ _ _ _ _ (c .before .before .read-job .ensures ∙ rw (c .before .before .before .wide-id .ensures))
+    (sym (c .before .is-waiting .ensures) ∙ c .if1 .left)
 
 pub visit-spec : {M : Type 1} → statement M
 visit-spec =

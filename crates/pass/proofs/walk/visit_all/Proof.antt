@@ -15,7 +15,8 @@ use Rattle.pass.proofs.walk.visit_all.Tie as tie
 
 abbrev Inv-loop : tie.InvT-loop
 Inv-loop setting clock gpus₀ jobs₀ queue m work₀ n ranks₀ i₀ gpus jobs work ranks i =
-    (i ≤ m) × (m ≤ 128) × (ranks ≡ ranksOf (gpusOf gpus) (jobsOf jobs) (setting .gpus)) × (through (visitAt setting clock queue) (wholePass work gpus jobs) (m - i) i ≡ through (visitAt setting clock queue) (wholePass work₀ gpus₀ jobs₀) m 0)
+    (i ≤ m) × (m ≤ 128) × (ranks ≡ ranksOf (gpusOf gpus) (jobsOf jobs) (setting .gpus)) ×
+    (through (visitAt setting clock queue) (wholePass work gpus jobs) (m - i) i ≡ through (visitAt setting clock queue) (wholePass work₀ gpus₀ jobs₀) m 0)
 
 abbrev μ-loop : tie.MeasureT-loop
 μ-loop setting clock gpus₀ jobs₀ queue m work₀ n ranks₀ i₀ gpus jobs work ranks i = m - i
@@ -30,7 +31,9 @@ ranks-of-requires : tie.Need-ranks-of-requires Inv-loop μ-loop
 ranks-of-requires c κs = search needs
 
 loop-holds : tie.Need-loop-holds Inv-loop μ-loop
-loop-holds c = let e : c .before .before .before .before .lesser .result - 0 ≡ c .before .before .before .before .lesser .result = omega arith in (omega arith, omega arith, c .ranks-of .ensures, rw e)
+loop-holds c =
+    let lesser = c .before .before .before .before .lesser in
+    let e : lesser .result - 0 ≡ lesser .result = omega arith in (omega arith, omega arith, c .ranks-of .ensures, rw e)
 
 mul-stays : tie.Need-mul-stays Inv-loop μ-loop
 mul-stays c = search needs
@@ -49,7 +52,16 @@ loop-less c = search needs
 
 loop-again : tie.Need-loop-again Inv-loop μ-loop
 loop-again c =
-    (omega arith, omega arith, c .before .before .before .before .before .before .loop .inv .2, skip-step (c .before .before .before .before .before .before .before .before .before .before .before .before .before .before .args .setting) (c .before .before .before .before .before .before .before .before .before .before .before .before .before .before .args .clock) (c .before .before .before .before .before .before .before .before .before .before .before .before .before .before .args .turn .line .queue) (wholePass (c .before .before .before .before .before .before .loop .work) (c .before .before .before .before .before .before .loop .gpus) (c .before .before .before .before .before .before .loop .jobs)) (c .before .before .before .before .before .before .before .before .before .before .before .lesser .result) (c .before .before .before .before .before .before .loop .i) (omega arith) (sym (c .before .stays .ensures) ∙ c .if1 .taken) ∙ c .before .before .before .before .before .before .loop .inv .3)
+    let here = c .before .before .before .before .before .before .loop in
+    let lesser = c .before .before .before .before .before .before .before .before .before .before .before .lesser in
+    let back = c .before .before .before .before .before .before .before .before .before .before in
+    let start = back .before .before .before .before .args in (
+      omega arith,
+      omega arith,
+      here .inv .2,
+      skip-step (start .setting) (start .clock) (start .turn .line .queue) (wholePass (here .work) (here .gpus) (here .jobs)) (lesser .result)
+          (here .i) (omega arith) (sym (c .before .stays .ensures) ∙ c .if1 .taken) ∙ here .inv .3,
+    )
 
 mul-visit : tie.Need-mul-visit Inv-loop μ-loop
 mul-visit c = search needs
@@ -71,10 +83,25 @@ loop-less-2 c = search needs
 
 loop-again-2 : tie.Need-loop-again-2 Inv-loop μ-loop
 loop-again-2 c =
-    (omega arith, omega arith, c .ranks-of2 .ensures, rw (c .before .before .before .visit .ensures) (through-step (visitAt (c .before .before .before .before .before .before .before .before .before .before .before .before .before .before .before .before .before .before .before .before .args .setting) (c .before .before .before .before .before .before .before .before .before .before .before .before .before .before .before .before .before .before .before .before .args .clock) (c .before .before .before .before .before .before .before .before .before .before .before .before .before .before .before .before .before .before .before .before .args .turn .line .queue)) (wholePass (c .before .before .before .before .before .before .before .before .before .before .before .before .loop .work) (c .before .before .before .before .before .before .before .before .before .before .before .before .loop .gpus) (c .before .before .before .before .before .before .before .before .before .before .before .before .loop .jobs)) (c .before .before .before .before .before .before .before .before .before .before .before .before .before .before .before .before .before .lesser .result) (c .before .before .before .before .before .before .before .before .before .before .before .before .loop .i) (omega arith) ∙ c .before .before .before .before .before .before .before .before .before .before .before .before .loop .inv .3))
+    let here = c .before .before .before .before .before .before .before .before .before .before .before .before .loop in
+    let back = c .before .before .before .before .before .before .before .before .before .before in
+    let lesser = back .before .before .before .before .before .before .before .lesser in
+    let start = back .before .before .before .before .before .before .before .before .before .before .args in (
+      omega arith,
+      omega arith,
+      c .ranks-of2 .ensures,
+      rw (c .before .before .before .visit .ensures)
+          (through-step (visitAt (start .setting) (start .clock) (start .turn .line .queue)) (wholePass (here .work) (here .gpus) (here .jobs))
+          (lesser .result) (here .i) (omega arith) ∙ here .inv .3),
+    )
 
 returns : tie.Need-returns Inv-loop μ-loop
-returns c = through-end (visitAt (c .before .before .before .before .before .before .before .before .before .args .setting) (c .before .before .before .before .before .before .before .before .before .args .clock) (c .before .before .before .before .before .before .before .before .before .args .turn .line .queue)) (wholePass (c .before .loop .work) (c .before .loop .gpus) (c .before .loop .jobs)) (c .before .before .before .before .before .before .lesser .result) (c .before .loop .i) (omega arith) ∙ c .before .loop .inv .3 ∙ rw (c .before .before .before .before .before .before .lesser .ensures)
+returns c =
+    let here = c .before .loop in
+    let lesser = c .before .before .before .before .before .before .lesser in
+    let start = c .before .before .before .before .before .before .before .before .before .args in
+    through-end (visitAt (start .setting) (start .clock) (start .turn .line .queue)) (wholePass (here .work) (here .gpus) (here .jobs))
+    (lesser .result) (here .i) (omega arith) ∙ here .inv .3 ∙ rw (lesser .ensures)
 
 pub visit-all-spec : {M : Type 1} → statement M
 visit-all-spec =

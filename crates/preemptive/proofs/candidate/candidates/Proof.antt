@@ -16,11 +16,15 @@ priorities-requires c κs = search needs
 no-numbers-requires : tie.Need-no-numbers-requires
 no-numbers-requires c κs = search needs
 
-sort-by-requires : tie.Need-sort-by-requires
-sort-by-requires c κs = search needs
+sort-front-requires : tie.Need-sort-front-requires
+sort-front-requires c κs = search needs
 
 returns : tie.Need-returns
-returns c = candidates-sorted _ _ _ (c .before .before .before .before .before .before .candidates-by-number .result) _ _ _ (c .before .before .before .before .before .before .candidates-by-number .ensures) (c .before .before .before .before .priorities .ensures) (c .before .before .before .no-numbers .ensures) (c .sort-by .ensures)
+returns c =
+    let priorities = c .before .before .before .before .priorities in
+    let candidates-by-number = c .before .before .before .before .before .before .candidates-by-number in
+    candidates-sorted _ _ _ (candidates-by-number .result) _ _ _ (candidates-by-number .ensures) (priorities .ensures)
+    (c .before .before .before .no-numbers .ensures) (c .sort-front .ensures)
 
 pub candidates-spec : {M : Type 1} → statement M
 candidates-spec =
@@ -30,5 +34,5 @@ candidates-spec =
     candidates-by-number-requires
     priorities-requires
     no-numbers-requires
-    sort-by-requires
+    sort-front-requires
     returns)

@@ -53,12 +53,15 @@ loop-less c = omega arith
 
 loop-again : tie.Need-loop-again Inv-loop μ-loop
 loop-again c =
-    let t : candidateAt (c .before .before .before .before .before .before .before .args .aware) (jobsOf (c .before .before .before .before .before .before .before .args .jobs .now)) (c .before .before .before .before .before .before .before .args .ask) (c .before .before .before .before .loop .i) ≡ c .before .is-candidate .result =
-    rw (← c .before .before .read-job .ensures) (sym (c .before .is-candidate .ensures)) in
-    let f : Kept (c .if1 .ids) (c .if1 .k) (those (candidateAt (c .before .before .before .before .before .before .before .args .aware) (jobsOf (c .before .before .before .before .before .before .before .args .jobs .now)) (c .before .before .before .before .before .before .before .args .ask)) (c .before .before .before .before .loop .i + 1) 0) =
+    let is-candidate = c .before .is-candidate in
+    let here = c .before .before .before .before .loop in
+    let start = c .before .before .before .before .before .before .before .args in
+    let t : candidateAt (start .aware) (jobsOf (start .jobs .now)) (start .ask) (here .i) ≡ is-candidate .result =
+    rw (← c .before .before .read-job .ensures) (sym (is-candidate .ensures)) in
+    let f : Kept (c .if1 .ids) (c .if1 .k) (those (candidateAt (start .aware) (jobsOf (start .jobs .now)) (start .ask)) (here .i + 1) 0) =
     ⊎-elim
-    (λ w. rw (w .1, w .2) (those-turn-take _ _ _ _ (omega arith) (t ∙ w .0 .taken) (c .before .before .before .before .loop .inv .3)))
-    (λ w. rw (w .1, w .2) (those-turn-skip _ _ _ _ (t ∙ w .0 .left) (c .before .before .before .before .loop .inv .3)))
+    (λ w. rw (w .1, w .2) (those-turn-take _ _ _ _ (omega arith) (t ∙ w .0 .taken) (here .inv .3)))
+    (λ w. rw (w .1, w .2) (those-turn-skip _ _ _ _ (t ∙ w .0 .left) (here .inv .3)))
     (c .if1 .came) in
     (omega arith, omega arith, those-size _ _ _ _ f, f)
 

@@ -21,7 +21,7 @@ both-requires-3 c κs = search needs
 
 returns : tie.Need-returns
 unfolding candidate
-returns c = cc
+returns c = rw (c .both3 .ensures, c .before .both2 .ensures, c .before .before .is-open-to .ensures, c .before .before .before .before .both .ensures, c .before .before .before .before .before .before .before .is-running .ensures)
 
 pub is-candidate-spec : {M : Type 1} → statement M
 is-candidate-spec =

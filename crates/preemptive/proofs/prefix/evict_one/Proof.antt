@@ -18,7 +18,9 @@ write-job-requires c κs = search needs
 
 returns : tie.Need-returns
 unfolding evictedAll
-returns c = rw (c .write-job .ensures, c .before .evict .ensures, c .before .before .before .read-job .ensures, c .before .before .before .before .before .wide-id .ensures)
+returns c =
+    let wide-id = c .before .before .before .before .before .wide-id in
+    rw (c .write-job .ensures, c .before .evict .ensures, c .before .before .before .read-job .ensures, wide-id .ensures)
 
 pub evict-one-spec : {M : Type 1} → statement M
 evict-one-spec =

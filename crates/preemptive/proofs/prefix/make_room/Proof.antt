@@ -12,7 +12,9 @@ use Rattle.preemptive.proofs.prefix.make_room.Statement.{statement}
 use Rattle.preemptive.proofs.prefix.make_room.Tie as tie
 
 abbrev Inv-loop : tie.InvT-loop
-Inv-loop setting clock gpus₀ jobs₀ j count ids n free₀ left₀ k₀ gpus jobs free left k = (k ≤ n) × (n ≡ length (take count ids)) × (n ≤ count) × (gpus ≡ gpus₀) × (jobs ≡ jobs₀) × Tried setting clock (gpusOf gpus₀) (jobsOf jobs₀) j (take count ids) k (gpusOf free) (jobsOf left)
+Inv-loop setting clock gpus₀ jobs₀ j count ids n free₀ left₀ k₀ gpus jobs free left k =
+    (k ≤ n) × (n ≡ length (take count ids)) × (n ≤ count) × (gpus ≡ gpus₀) × (jobs ≡ jobs₀) × Tried setting clock (gpusOf gpus₀) (jobsOf jobs₀) j
+    (take count ids) k (gpusOf free) (jobsOf left)
 
 abbrev μ-loop : tie.MeasureT-loop
 μ-loop setting clock gpus₀ jobs₀ j count ids n free₀ left₀ k₀ gpus jobs free left k = n - k
@@ -21,7 +23,10 @@ lesser-requires : tie.Need-lesser-requires Inv-loop μ-loop
 lesser-requires c κs = search needs
 
 loop-holds : tie.Need-loop-holds Inv-loop μ-loop
-loop-holds c = (omega arith, omega (arith, c .before .before .lesser .ensures, length-take (c .before .before .before .args .count) (c .before .before .before .args .t6)), omega (arith, c .before .before .lesser .ensures), refl, refl, tried-none _ _ _ _ _ _)
+loop-holds c =
+    let lesser = c .before .before .lesser in
+    let start = c .before .before .before .args in
+    (omega arith, omega (arith, lesser .ensures, length-take (start .count) (start .t6)), omega (arith, lesser .ensures), refl, refl, tried-none _ _ _ _ _ _)
 
 mul-v : tie.Need-mul-v Inv-loop μ-loop
 mul-v c = search needs
@@ -45,13 +50,39 @@ is-placeable-requires : tie.Need-is-placeable-requires Inv-loop μ-loop
 is-placeable-requires c κs = search needs
 
 returns : tie.Need-returns Inv-loop μ-loop
-returns c = tried-found (c .before .before .before .before .before .before .before .before .before .before .before .before .before .before .args .setting) (c .before .before .before .before .before .before .before .before .before .before .before .before .before .before .args .clock) (gpusOf (c .before .before .before .before .before .before .before .before .before .before .before .before .before .before .args .gpus .now)) (jobsOf (c .before .before .before .before .before .before .before .before .before .before .before .before .before .before .args .jobs .now)) (c .before .before .before .before .before .before .before .before .before .before .before .before .before .before .args .j) (take (c .before .before .before .before .before .before .before .before .before .before .before .before .before .before .args .count) (c .before .before .before .before .before .before .before .before .before .before .before .before .before .before .args .t6)) (c .before .before .before .before .before .before .before .before .before .before .loop .k) _ (gpusOf (c .before .before .before .before .before .before .before .before .before .before .loop .free)) (jobsOf (c .before .before .before .before .before .before .before .before .before .before .loop .left)) _ _ (omega arith) (sym (getD-take (c .before .before .before .before .before .before .before .before .before .before .before .before .before .before .args .count) (c .before .before .before .before .before .before .before .before .before .before .before .before .before .before .args .t6) (c .before .before .before .before .before .before .before .before .before .before .loop .k) 0 (omega arith))) (c .before .before .before .before .before .before .before .before .before .before .loop .inv .5) (rw (← c .before .before .before .before .before .before .before .plus-one .ensures) (c .before .before .before .before .before .before .free-all .ensures)) (c .before .before .before .before .evict-one .ensures) (c .before .before .before .before .before .before .before .before .before .before .before .before .before .before .args .t6) _ (c .before .is-placeable .ensures) (c .if1 .taken)
+returns c =
+    let evict-one = c .before .before .before .before .evict-one in
+    let free-all = c .before .before .before .before .before .before .free-all in
+    let plus-one = c .before .before .before .before .before .before .before .plus-one in
+    let here = c .before .before .before .before .before .before .before .before .before .before .loop in
+    let back = c .before .before .before .before .before .before .before .before .before .before in
+    let start = back .before .before .before .before .args in
+    tried-found (start .setting) (start .clock) (gpusOf (start .gpus .now)) (jobsOf (start .jobs .now)) (start .j) (take (start .count) (start .t6))
+    (here .k) _ (gpusOf (here .free)) (jobsOf (here .left)) _ _ (omega arith)
+    (sym (getD-take (start .count) (start .t6) (here .k) 0 (omega arith))) (here .inv .5) (rw (← plus-one .ensures) (free-all .ensures))
+    (evict-one .ensures) (start .t6) _ (c .before .is-placeable .ensures) (c .if1 .taken)
 
 loop-less : tie.Need-loop-less Inv-loop μ-loop
 loop-less c = omega arith
 
 loop-again : tie.Need-loop-again Inv-loop μ-loop
-loop-again c = (omega arith, (c .before .before .before .before .before .before .before .before .before .before .loop .inv .1), (c .before .before .before .before .before .before .before .before .before .before .loop .inv .2), (c .before .before .before .before .before .before .before .before .before .before .loop .inv .3), (c .before .before .before .before .before .before .before .before .before .before .loop .inv .4), tried-next (c .before .before .before .before .before .before .before .before .before .before .before .before .before .before .args .setting) (c .before .before .before .before .before .before .before .before .before .before .before .before .before .before .args .clock) (gpusOf (c .before .before .before .before .before .before .before .before .before .before .before .before .before .before .args .gpus .now)) (jobsOf (c .before .before .before .before .before .before .before .before .before .before .before .before .before .before .args .jobs .now)) (c .before .before .before .before .before .before .before .before .before .before .before .before .before .before .args .j) (take (c .before .before .before .before .before .before .before .before .before .before .before .before .before .before .args .count) (c .before .before .before .before .before .before .before .before .before .before .before .before .before .before .args .t6)) (c .before .before .before .before .before .before .before .before .before .before .loop .k) _ (gpusOf (c .before .before .before .before .before .before .before .before .before .before .loop .free)) (jobsOf (c .before .before .before .before .before .before .before .before .before .before .loop .left)) _ _ (omega arith) (sym (getD-take (c .before .before .before .before .before .before .before .before .before .before .before .before .before .before .args .count) (c .before .before .before .before .before .before .before .before .before .before .before .before .before .before .args .t6) (c .before .before .before .before .before .before .before .before .before .before .loop .k) 0 (omega arith))) (c .before .before .before .before .before .before .before .before .before .before .loop .inv .5) (rw (← c .before .before .before .before .before .before .before .plus-one .ensures) (c .before .before .before .before .before .before .free-all .ensures)) (c .before .before .before .before .evict-one .ensures) _ (c .before .is-placeable .ensures) (c .if1 .left))
+loop-again c =
+    let evict-one = c .before .before .before .before .evict-one in
+    let free-all = c .before .before .before .before .before .before .free-all in
+    let plus-one = c .before .before .before .before .before .before .before .plus-one in
+    let here = c .before .before .before .before .before .before .before .before .before .before .loop in
+    let back = c .before .before .before .before .before .before .before .before .before .before in
+    let start = back .before .before .before .before .args in (
+      omega arith,
+      (here .inv .1),
+      (here .inv .2),
+      (here .inv .3),
+      (here .inv .4),
+      tried-next (start .setting) (start .clock) (gpusOf (start .gpus .now)) (jobsOf (start .jobs .now)) (start .j)
+          (take (start .count) (start .t6)) (here .k) _ (gpusOf (here .free)) (jobsOf (here .left)) _ _ (omega arith)
+          (sym (getD-take (start .count) (start .t6) (here .k) 0 (omega arith))) (here .inv .5) (rw (← plus-one .ensures) (free-all .ensures))
+          (evict-one .ensures) _ (c .before .is-placeable .ensures) (c .if1 .left),
+    )
 
 returns-2 : tie.Need-returns-2 Inv-loop μ-loop
 returns-2 c = rw (c .before .loop .inv .3, c .before .loop .inv .4) (tried-end _ _ _ _ _ _ _ _ _ _ (omega arith) (c .before .loop .inv .5))

@@ -11,7 +11,10 @@ make-room-requires : tie.Need-make-room-requires
 make-room-requires c κs = search needs
 
 returns : tie.Need-returns
-returns c = made-is _ _ _ _ (c .before .before .before .before .before .before .before .args .j) (c .before .before .before .before .candidates .result) _ (c .before .before .before .before .candidates .ensures) (c .make-room .ensures)
+returns c =
+    let candidates = c .before .before .before .before .candidates in
+    let start = c .before .before .before .before .before .before .before .args in
+    made-is _ _ _ _ (start .j) (candidates .result) _ (candidates .ensures) (c .make-room .ensures)
 
 pub preempt-spec : {M : Type 1} → statement M
 preempt-spec = tie.close (tie.spec candidates-requires make-room-requires returns)

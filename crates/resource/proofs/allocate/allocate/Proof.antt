@@ -14,7 +14,12 @@ allocate-whole-requires : tie.Need-allocate-whole-requires
 allocate-whole-requires c κs = search needs
 
 returns : tie.Need-returns
-returns c = c .allocate-whole .ensures ∙ whole-placed (c .before .before .before .before .before .before .before .args .setting) (gpusOf (c .before .before .before .before .before .before .before .args .gpus .now)) (c .before .before .before .before .before .before .before .args .j) (c .before .before .before .before .before .before .before .args .owner) (jobsOf (c .before .before .before .before .before .before .before .args .jobs .now)) (sym (c .before .before .before .before .before .within-quota .ensures) ∙ c .before .before .before .before .if1 .taken) (c .before .before .if2 .taken)
+returns c =
+    let if1 = c .before .before .before .before .if1 in
+    let within-quota = c .before .before .before .before .before .within-quota in
+    let start = c .before .before .before .before .before .before .before .args in
+    c .allocate-whole .ensures ∙ whole-placed (start .setting) (gpusOf (start .gpus .now)) (start .j) (start .owner) (jobsOf (start .jobs .now))
+    (sym (within-quota .ensures) ∙ if1 .taken) (c .before .before .if2 .taken)
 
 resource-cause-requires : tie.Need-resource-cause-requires
 resource-cause-requires c κs = search needs
@@ -26,13 +31,28 @@ allocate-mig-requires : tie.Need-allocate-mig-requires
 allocate-mig-requires c κs = search needs
 
 returns-2 : tie.Need-returns-2
-returns-2 c = c .allocate-mig .ensures ∙ slices-placed (c .before .before .before .before .before .before .before .before .before .before .before .args .setting) (gpusOf (c .before .before .before .before .before .before .before .before .before .before .before .args .gpus .now)) (c .before .before .before .before .before .before .before .before .before .before .before .args .j) (c .before .before .before .before .before .before .before .before .before .before .before .args .owner) (jobsOf (c .before .before .before .before .before .before .before .before .before .before .before .args .jobs .now)) (sym (c .before .before .before .before .before .before .before .before .before .within-quota .ensures) ∙ c .before .before .before .before .before .before .before .before .if1 .taken) (c .before .before .before .before .before .before .if2 .left) (rw (c .before .before .before .before .resource-cause .ensures) at (sym (c .before .before .before .is-none .ensures) ∙ c .before .before .if3 .taken))
+returns-2 c =
+    let resource-cause = c .before .before .before .before .resource-cause in
+    let if2 = c .before .before .before .before .before .before .if2 in
+    let if1 = c .before .before .before .before .before .before .before .before .if1 in
+    let within-quota = c .before .before .before .before .before .before .before .before .before .within-quota in
+    let start = c .before .before .before .before .before .before .before .before .before .before .before .args in
+    c .allocate-mig .ensures ∙ slices-placed (start .setting) (gpusOf (start .gpus .now)) (start .j) (start .owner) (jobsOf (start .jobs .now))
+    (sym (within-quota .ensures) ∙ if1 .taken) (if2 .left)
+    (rw (resource-cause .ensures) at (sym (c .before .before .before .is-none .ensures) ∙ c .before .before .if3 .taken))
 
 returns-3 : tie.Need-returns-3
-returns-3 c = no-resources (c .before .before .before .before .before .before .before .before .before .args .setting) (gpusOf (c .before .before .before .before .before .before .before .before .before .args .gpus .now)) (c .before .before .before .before .before .before .before .before .before .args .j) (c .before .before .before .before .before .before .before .before .before .args .owner) (jobsOf (c .before .before .before .before .before .before .before .before .before .args .jobs .now)) (sym (c .before .before .before .before .before .before .before .within-quota .ensures) ∙ c .before .before .before .before .before .before .if1 .taken) (rw (c .before .before .resource-cause .ensures) at (sym (c .before .is-none .ensures) ∙ c .if3 .left))
+returns-3 c =
+    let if1 = c .before .before .before .before .before .before .if1 in
+    let within-quota = c .before .before .before .before .before .before .before .within-quota in
+    let start = c .before .before .before .before .before .before .before .before .before .args in
+    no-resources (start .setting) (gpusOf (start .gpus .now)) (start .j) (start .owner) (jobsOf (start .jobs .now))
+    (sym (within-quota .ensures) ∙ if1 .taken) (rw (c .before .before .resource-cause .ensures) at (sym (c .before .is-none .ensures) ∙ c .if3 .left))
 
 returns-4 : tie.Need-returns-4
-returns-4 c = over-quota (c .before .before .before .args .setting) (gpusOf (c .before .before .before .args .gpus .now)) (c .before .before .before .args .j) (c .before .before .before .args .owner) (jobsOf (c .before .before .before .args .jobs .now)) (sym (c .before .within-quota .ensures) ∙ c .if1 .left)
+returns-4 c =
+    let start = c .before .before .before .args in
+    over-quota (start .setting) (gpusOf (start .gpus .now)) (start .j) (start .owner) (jobsOf (start .jobs .now)) (sym (c .before .within-quota .ensures) ∙ c .if1 .left)
 
 pub allocate-spec : {M : Type 1} → statement M
 allocate-spec =

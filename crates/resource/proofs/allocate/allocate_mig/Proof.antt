@@ -18,7 +18,12 @@ allocate-slices-requires : tie.Need-allocate-slices-requires
 allocate-slices-requires c κs = search needs
 
 returns : tie.Need-returns
-returns c = slices-given (c .before .before .before .before .before .before .before .args .setting) (gpusOf (c .before .before .before .before .before .before .before .args .gpus .now)) (c .before .before .before .before .before .before .before .args .j) (c .before .before .before .before .before .before .before .args .owner) (c .allocate-slices .result) (c .allocate-slices .last .0) (c .before .before .before .before .wide-less .result) (c .before .before .before .most-at .result) (c .before .before .before .before .wide-less .ensures) (c .before .before .before .most-at .ensures) (c .allocate-slices .ensures)
+returns c =
+    let most-at = c .before .before .before .most-at in
+    let wide-less = c .before .before .before .before .wide-less in
+    let start = c .before .before .before .before .before .before .before .args in
+    slices-given (start .setting) (gpusOf (start .gpus .now)) (start .j) (start .owner) (c .allocate-slices .result) (c .allocate-slices .last .0)
+    (wide-less .result) (most-at .result) (wide-less .ensures) (most-at .ensures) (c .allocate-slices .ensures)
 
 pub allocate-mig-spec : {M : Type 1} → statement M
 allocate-mig-spec =

@@ -15,7 +15,11 @@ give-gpus-requires : tie.Need-give-gpus-requires
 give-gpus-requires c κs = search needs
 
 returns : tie.Need-returns
-returns c = chosen-given (c .before .before .before .before .before .before .before .before .before .before .args .setting) (gpusOf (c .before .before .before .before .before .before .before .before .before .before .args .gpus .now)) (c .before .before .before .before .before .before .before .before .before .before .args .j) (c .before .before .before .before .before .before .before .before .before .before .args .owner) (c .before .before .before .before .choose-gpus .result) (c .give-gpus .last .0) (c .before .before .before .before .choose-gpus .ensures) (c .give-gpus .ensures)
+returns c =
+    let choose-gpus = c .before .before .before .before .choose-gpus in
+    let start = c .before .before .before .before .before .before .before .before .before .before .args in
+    chosen-given (start .setting) (gpusOf (start .gpus .now)) (start .j) (start .owner) (choose-gpus .result) (c .give-gpus .last .0)
+    (choose-gpus .ensures) (c .give-gpus .ensures)
 
 pub allocate-whole-spec : {M : Type 1} → statement M
 allocate-whole-spec =

@@ -16,7 +16,9 @@ whole-cause-requires c κs = search needs
 
 returns : tie.Need-returns
 unfolding resourceCause
-returns c = rw (eq-eqb (c .before .before .before .before .before .before .before .args .j .ask .profile) 0 (c .before .before .before .if1 .taken), ← c .before .why-not-here .ensures) (c .whole-cause .ensures)
+returns c =
+    let start = c .before .before .before .before .before .before .before .args in
+    rw (eq-eqb (start .j .ask .profile) 0 (c .before .before .before .if1 .taken), ← c .before .why-not-here .ensures) (c .whole-cause .ensures)
 
 sub-most-at : tie.Need-sub-most-at
 sub-most-at c = search needs
@@ -32,7 +34,10 @@ slices-cause-requires c κs = search needs
 
 returns-2 : tie.Need-returns-2
 unfolding resourceCause
-returns-2 c = rw (ne-eqb (c .before .before .before .before .before .before .before .before .args .j .ask .profile) 0 (c .before .before .before .before .if1 .left), ← c .before .most-at .ensures) (c .slices-cause .ensures)
+returns-2 c =
+    let if1 = c .before .before .before .before .if1 in
+    let start = c .before .before .before .before .before .before .before .before .args in
+    rw (ne-eqb (start .j .ask .profile) 0 (if1 .left), ← c .before .most-at .ensures) (c .slices-cause .ensures)
 
 pub resource-cause-spec : {M : Type 1} → statement M
 resource-cause-spec =

@@ -18,11 +18,25 @@ returns-2 c = rw (ne-eqb (c .before .before .before .args .most) 0 (c .before .b
 
 returns-3 : tie.Need-returns-3
 unfolding slicesCause
-returns-3 c = rw (ne-eqb (c .before .before .before .before .args .most) 0 (c .before .before .before .if1 .left), ← c .before .before .slices-placeable .ensures, c .before .if2 .left, lt-ltb (c .before .before .before .before .args .most) (c .before .before .before .before .args .want) (c .if3 .taken))
+returns-3 c =
+    let start = c .before .before .before .before .args in
+    rw (
+      ne-eqb (start .most) 0 (c .before .before .before .if1 .left),
+      ← c .before .before .slices-placeable .ensures,
+      c .before .if2 .left,
+      lt-ltb (start .most) (start .want) (c .if3 .taken),
+    )
 
 returns-4 : tie.Need-returns-4
 unfolding slicesCause
-returns-4 c = rw (ne-eqb (c .before .before .before .before .args .most) 0 (c .before .before .before .if1 .left), ← c .before .before .slices-placeable .ensures, c .before .if2 .left, le-ltb (c .before .before .before .before .args .most) (c .before .before .before .before .args .want) (c .if3 .left))
+returns-4 c =
+    let start = c .before .before .before .before .args in
+    rw (
+      ne-eqb (start .most) 0 (c .before .before .before .if1 .left),
+      ← c .before .before .slices-placeable .ensures,
+      c .before .if2 .left,
+      le-ltb (start .most) (start .want) (c .if3 .left),
+    )
 
 pub slices-cause-spec : {M : Type 1} → statement M
 slices-cause-spec =

@@ -13,7 +13,11 @@ returns-3 : tie.Need-returns-3
 returns-3 c = rw (c .match .keys3)
 
 returns-4 : tie.Need-returns-4
-returns-4 c = rw (ne-eqb (c .before .args .x) 1 (c .match .rest .0 .0 .1), ne-eqb (c .before .args .x) 2 (c .match .rest .0 .1), ne-eqb (c .before .args .x) 3 (c .match .rest .1))
+returns-4 c = rw (
+  ne-eqb (c .before .args .x) 1 (c .match .rest .0 .0 .1),
+  ne-eqb (c .before .args .x) 2 (c .match .rest .0 .1),
+  ne-eqb (c .before .args .x) 3 (c .match .rest .1),
+)
 
 pub kind-of-spec : {M : Type 1} → statement M
 kind-of-spec = tie.close (tie.spec returns returns-2 returns-3 returns-4)

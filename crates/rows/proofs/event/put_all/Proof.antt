@@ -41,7 +41,13 @@ loop-less : tie.Need-loop-less Inv-loop μ-loop
 loop-less c = omega arith
 
 loop-again : tie.Need-loop-again Inv-loop μ-loop
-loop-again c = (omega arith, simp length-set (omega arith), write-step eventOf (c .before .before .before .loop .entries) (c .before .before .before .before .args .t2) (c .before .before .before .loop .i) (c .entry-of .result) _ (omega arith) (omega arith) (c .entry-of .ensures) (c .before .before .before .loop .inv .2))
+loop-again c =
+    let here = c .before .before .before .loop in
+    let start = c .before .before .before .before .args in (
+      omega arith,
+      simp length-set (omega arith),
+      write-step eventOf (here .entries) (start .t2) (here .i) (c .entry-of .result) _ (omega arith) (omega arith) (c .entry-of .ensures) (here .inv .2),
+    )
 
 same-length : tie.Need-same-length Inv-loop μ-loop
 same-length c = search needs

@@ -44,10 +44,18 @@ loop-less : tie.Need-loop-less Inv-loop μ-loop
 loop-less c = omega arith
 
 loop-again : tie.Need-loop-again Inv-loop μ-loop
-loop-again c = (omega arith, simp length-set (omega arith), read-step gpuOf (c .before .before .before .before .before .args .cards .now) (c .before .before .before .loop .table) (c .before .before .before .loop .i) _ (c .gpu-of .result) (omega arith) (omega arith) (c .gpu-of .ensures) (c .before .before .before .loop .inv .2))
+loop-again c =
+    let here = c .before .before .before .loop in
+    let start = c .before .before .before .before .before .args in (
+      omega arith,
+      simp length-set (omega arith),
+      read-step gpuOf (start .cards .now) (here .table) (here .i) _ (c .gpu-of .result) (omega arith) (omega arith) (c .gpu-of .ensures) (here .inv .2),
+    )
 
 returns : tie.Need-returns Inv-loop μ-loop
-returns c = read-end gpuOf (c .before .before .before .args .cards .now) (c .before .loop .table) (c .before .loop .i) (omega arith) (omega arith) (c .before .loop .inv .2)
+returns c =
+    let here = c .before .loop in
+    read-end gpuOf (c .before .before .before .args .cards .now) (here .table) (here .i) (omega arith) (omega arith) (here .inv .2)
 
 pub all-of-spec : {M : Type 1} → statement M
 all-of-spec =

@@ -69,10 +69,19 @@ each c i = search needs
 returns : tie.Need-returns
 unfolding cardOf
 returns c =
+    let bits-of = c .before .before .before .before .before .before .before .bits-of in
     let known = c .before .before .struct-known7 .given in
     let start = c .before .before .before .before .before .before .before .before .before .before .before in
-    rw (c .before .before .before .before .before .before .before .bits-of .ensures, c .before .number-of .ensures, c .number-of2 .ensures)
-    (gpu-back (start .args .g) (known .0, known .1 .0, known .1 .1 .0, known .1 .1 .1 .0, known .1 .1 .1 .1 .1 .0, known .1 .1 .1 .1 .1 .1 .0, known .1 .1 .1 .1 .1 .1 .1 .0) (long start) (each start))
+    rw (bits-of .ensures, c .before .number-of .ensures, c .number-of2 .ensures)
+    (gpu-back (start .args .g) (
+      known .0,
+      known .1 .0,
+      known .1 .1 .0,
+      known .1 .1 .1 .0,
+      known .1 .1 .1 .1 .1 .0,
+      known .1 .1 .1 .1 .1 .1 .0,
+      known .1 .1 .1 .1 .1 .1 .1 .0,
+    ) (long start) (each start))
 
 pub card-of-spec : {M : Type 1} → statement M
 card-of-spec =

@@ -60,7 +60,21 @@ halves-of-requires c κs = search needs
 
 returns : tie.Need-returns
 unfolding gpuOf
-returns c = rw (c .before .before .before .before .before .before .before .byte-of .ensures, c .before .before .before .before .before .before .byte-of2 .ensures, c .before .before .before .before .before .float-of .ensures, c .before .before .before .before .half-of .ensures, c .before .before .before .half-of2 .ensures, c .before .before .byte-of3 .ensures, c .before .byte-of4 .ensures, c .halves-of .ensures)
+returns c =
+    let half-of = c .before .before .before .before .half-of in
+    let float-of = c .before .before .before .before .before .float-of in
+    let byte-of2 = c .before .before .before .before .before .before .byte-of2 in
+    let byte-of = c .before .before .before .before .before .before .before .byte-of in
+    rw (
+      byte-of .ensures,
+      byte-of2 .ensures,
+      float-of .ensures,
+      half-of .ensures,
+      c .before .before .before .half-of2 .ensures,
+      c .before .before .byte-of3 .ensures,
+      c .before .byte-of4 .ensures,
+      c .halves-of .ensures,
+    )
 
 pub gpu-of-spec : {M : Type 1} → statement M
 gpu-of-spec =

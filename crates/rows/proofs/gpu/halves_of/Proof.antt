@@ -27,7 +27,19 @@ half-of-requires-7 c κs = search needs
 
 returns : tie.Need-returns
 unfolding halves
-returns c = rw (c .before .before .before .before .before .before .half-of .ensures, c .before .before .before .before .before .half-of2 .ensures, c .before .before .before .before .half-of3 .ensures, c .before .before .before .half-of4 .ensures, c .before .before .half-of5 .ensures, c .before .half-of6 .ensures, c .half-of7 .ensures)
+returns c =
+    let half-of3 = c .before .before .before .before .half-of3 in
+    let half-of2 = c .before .before .before .before .before .half-of2 in
+    let half-of = c .before .before .before .before .before .before .half-of in
+    rw (
+      half-of .ensures,
+      half-of2 .ensures,
+      half-of3 .ensures,
+      c .before .before .before .half-of4 .ensures,
+      c .before .before .half-of5 .ensures,
+      c .before .half-of6 .ensures,
+      c .half-of7 .ensures,
+    )
 
 pub halves-of-spec : {M : Type 1} → statement M
 halves-of-spec =

@@ -41,7 +41,13 @@ loop-less : tie.Need-loop-less Inv-loop μ-loop
 loop-less c = omega arith
 
 loop-again : tie.Need-loop-again Inv-loop μ-loop
-loop-again c = (omega arith, simp length-set (omega arith), write-step gpuOf (c .before .before .before .loop .cards) (c .before .before .before .before .args .t2) (c .before .before .before .loop .i) (c .card-of .result) _ (omega arith) (omega arith) (c .card-of .ensures) (c .before .before .before .loop .inv .2))
+loop-again c =
+    let here = c .before .before .before .loop in
+    let start = c .before .before .before .before .args in (
+      omega arith,
+      simp length-set (omega arith),
+      write-step gpuOf (here .cards) (start .t2) (here .i) (c .card-of .result) _ (omega arith) (omega arith) (c .card-of .ensures) (here .inv .2),
+    )
 
 same-length : tie.Need-same-length Inv-loop μ-loop
 same-length c = search needs

@@ -83,7 +83,19 @@ byte-of-requires-6 : tie.Need-byte-of-requires-6
 byte-of-requires-6 c κs = search needs
 
 returns : tie.Need-returns
-returns c = ask-read (c .before .before .before .before .before .before .before .before .before .before .before .before .args .t1) (c .before .before .before .before .before .before .before .before .before .before .before .float-of .ensures) (c .before .before .before .before .before .before .before .before .before .before .float-of2 .ensures) (c .before .before .before .before .before .before .before .before .before .word-of .ensures) (c .before .before .before .before .before .before .before .before .byte-of .ensures) (c .before .before .before .before .before .before .before .float-of3 .ensures) (c .before .before .before .before .before .before .half-of .ensures) (c .before .before .before .before .before .byte-of2 .ensures) (c .before .before .before .before .byte-of3 .ensures) (c .before .before .before .byte-of4 .ensures) (c .before .before .float-of4 .ensures) (c .before .byte-of5 .ensures) (c .byte-of6 .ensures)
+returns c =
+    let byte-of3 = c .before .before .before .before .byte-of3 in
+    let byte-of2 = c .before .before .before .before .before .byte-of2 in
+    let half-of = c .before .before .before .before .before .before .half-of in
+    let float-of3 = c .before .before .before .before .before .before .before .float-of3 in
+    let byte-of = c .before .before .before .before .before .before .before .before .byte-of in
+    let word-of = c .before .before .before .before .before .before .before .before .before .word-of in
+    let float-of2 = c .before .before .before .before .before .before .before .before .before .before .float-of2 in
+    let float-of = c .before .before .before .before .before .before .before .before .before .before .before .float-of in
+    let start = c .before .before .before .before .before .before .before .before .before .before .before .before .args in
+    ask-read (start .t1) (float-of .ensures) (float-of2 .ensures) (word-of .ensures) (byte-of .ensures) (float-of3 .ensures) (half-of .ensures)
+    (byte-of2 .ensures) (byte-of3 .ensures) (c .before .before .before .byte-of4 .ensures) (c .before .before .float-of4 .ensures)
+    (c .before .byte-of5 .ensures) (c .byte-of6 .ensures)
 
 pub ask-of-spec : {M : Type 1} → statement M
 ask-of-spec =

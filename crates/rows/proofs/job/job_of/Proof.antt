@@ -57,7 +57,23 @@ word-of-requires-3 c κs = search needs
 
 returns : tie.Need-returns
 unfolding jobOf
-returns c = rw (c .before .before .before .before .before .before .before .before .ask-of .ensures, c .before .before .before .before .before .before .before .state-of .ensures, c .before .before .before .before .before .before .float-of .ensures, c .before .before .before .before .before .float-of2 .ensures, c .before .before .before .before .float-of3 .ensures, c .before .before .before .float-of4 .ensures, c .before .before .word-of .ensures, c .before .word-of2 .ensures, c .word-of3 .ensures)
+returns c =
+    let float-of3 = c .before .before .before .before .float-of3 in
+    let float-of2 = c .before .before .before .before .before .float-of2 in
+    let float-of = c .before .before .before .before .before .before .float-of in
+    let state-of = c .before .before .before .before .before .before .before .state-of in
+    let ask-of = c .before .before .before .before .before .before .before .before .ask-of in
+    rw (
+      ask-of .ensures,
+      state-of .ensures,
+      float-of .ensures,
+      float-of2 .ensures,
+      float-of3 .ensures,
+      c .before .before .before .float-of4 .ensures,
+      c .before .before .word-of .ensures,
+      c .before .word-of2 .ensures,
+      c .word-of3 .ensures,
+    )
 
 pub job-of-spec : {M : Type 1} → statement M
 job-of-spec =

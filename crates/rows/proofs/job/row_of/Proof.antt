@@ -74,9 +74,30 @@ cast-t25 c = fits-32 (c .struct-known13 .given .1 .1 .1 .1 .1 .1 .1 .1 .0)
 returns : tie.Need-returns
 unfolding rowOf
 returns c =
+    let bits-of7 = c .before .before .before .before .bits-of7 in
+    let bits-of6 = c .before .before .before .before .before .bits-of6 in
+    let bits-of5 = c .before .before .before .before .before .before .bits-of5 in
+    let state-number = c .before .before .before .before .before .before .before .state-number in
+    let bits-of4 = c .before .before .before .before .before .before .before .before .before .before .bits-of4 in
+    let back = c .before .before .before .before .before .before .before .before .before .before in
+    let bits-of3 = back .before .before .before .before .before .before .before .bits-of3 in
+    let bits-of2 = back .before .before .before .before .before .before .before .before .before .before .bits-of2 in
+    let bits-of = back .before .before .before .before .before .before .before .before .before .before .before .bits-of in
+    let further = back .before .before .before .before .before .before .before .before .before .before in
+    let start = further .before .before .before .args in
     let known = c .struct-known13 .given in
-    rw (c .before .before .before .before .before .before .before .before .before .before .before .before .before .before .before .before .before .before .before .before .before .bits-of .ensures, c .before .before .before .before .before .before .before .before .before .before .before .before .before .before .before .before .before .before .before .before .bits-of2 .ensures, c .before .before .before .before .before .before .before .before .before .before .before .before .before .before .before .before .before .bits-of3 .ensures, c .before .before .before .before .before .before .before .before .before .before .bits-of4 .ensures, c .before .before .before .before .before .before .before .state-number .ensures, c .before .before .before .before .before .before .bits-of5 .ensures, c .before .before .before .before .before .bits-of6 .ensures, c .before .before .before .before .bits-of7 .ensures, c .before .before .before .bits-of8 .ensures)
-    (job-back (c .before .before .before .before .before .before .before .before .before .before .before .before .before .before .before .before .before .before .before .before .before .before .before .args .j) (known .0) (known .1 .1))
+    rw (
+      bits-of .ensures,
+      bits-of2 .ensures,
+      bits-of3 .ensures,
+      bits-of4 .ensures,
+      state-number .ensures,
+      bits-of5 .ensures,
+      bits-of6 .ensures,
+      bits-of7 .ensures,
+      c .before .before .before .bits-of8 .ensures,
+    )
+    (job-back (start .j) (known .0) (known .1 .1))
 
 pub row-of-spec : {M : Type 1} → statement M
 row-of-spec =

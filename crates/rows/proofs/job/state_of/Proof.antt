@@ -19,7 +19,13 @@ returns-5 : tie.Need-returns-5
 returns-5 c = rw (c .match .keys5)
 
 returns-6 : tie.Need-returns-6
-returns-6 c = rw (ne-eqb (c .before .args .x) 1 (c .match .rest .0 .0 .0 .0 .1), ne-eqb (c .before .args .x) 2 (c .match .rest .0 .0 .0 .1), ne-eqb (c .before .args .x) 3 (c .match .rest .0 .0 .1), ne-eqb (c .before .args .x) 4 (c .match .rest .0 .1), ne-eqb (c .before .args .x) 5 (c .match .rest .1))
+returns-6 c = rw (
+  ne-eqb (c .before .args .x) 1 (c .match .rest .0 .0 .0 .0 .1),
+  ne-eqb (c .before .args .x) 2 (c .match .rest .0 .0 .0 .1),
+  ne-eqb (c .before .args .x) 3 (c .match .rest .0 .0 .1),
+  ne-eqb (c .before .args .x) 4 (c .match .rest .0 .1),
+  ne-eqb (c .before .args .x) 5 (c .match .rest .1),
+)
 
 pub state-of-spec : {M : Type 1} → statement M
 state-of-spec = tie.close (tie.spec returns returns-2 returns-3 returns-4 returns-5 returns-6)

@@ -19,7 +19,9 @@ both-requires-2 : tie.Need-both-requires-2
 both-requires-2 c κs = search needs
 
 returns : tie.Need-returns
-returns c = rw (c .both2 .ensures, c .before .is-permitted3 .ensures, c .before .before .both .ensures, c .before .before .before .is-permitted2 .ensures, c .before .before .before .before .is-permitted .ensures)
+returns c =
+    let is-permitted = c .before .before .before .before .is-permitted in
+    rw (c .both2 .ensures, c .before .is-permitted3 .ensures, c .before .before .both .ensures, c .before .before .before .is-permitted2 .ensures, is-permitted .ensures)
 
 pub are-permitted-spec : {M : Type 1} → statement M
 are-permitted-spec =

@@ -48,7 +48,34 @@ tell-requires c κs = search needs
 
 returns : tie.Need-returns
 unfolding begun
-returns c = rw (c .tell .ensures, c .before .amount .ensures, c .before .before .bits-of .ensures, c .before .before .before .also .ensures, also-whole (c .before .before .before .before .before .before .queue-event .result) _ (c .before .before .before .before .before .before .before .before .before .are-permitted .result) _ (c .before .before .before .before .before .before .queue-event .ensures), c .before .before .before .before .write-job .ensures, c .before .before .before .before .before .before .before .before .completion-at .ensures, c .before .before .before .before .before .before .before .before .before .are-permitted .ensures, c .before .before .before .before .before .before .before .before .before .before .after-start .ensures, c .before .before .before .before .before .before .before .before .before .before .before .start .ensures, c .before .before .before .before .before .before .before .before .before .before .before .before .multiplier-of .ensures, c .before .before .before .before .before .before .before .before .before .before .before .before .before .start-at .ensures, c .before .before .before .before .before .before .before .before .before .before .before .before .before .before .before .read-job .ensures, c .before .before .before .before .before .before .before .before .before .before .before .before .before .before .before .before .before .wide-id .ensures)
+returns c =
+    let write-job = c .before .before .before .before .write-job in
+    let queue-event = c .before .before .before .before .before .before .queue-event in
+    let completion-at = c .before .before .before .before .before .before .before .before .completion-at in
+    let are-permitted = c .before .before .before .before .before .before .before .before .before .are-permitted in
+    let after-start = c .before .before .before .before .before .before .before .before .before .before .after-start in
+    let start = c .before .before .before .before .before .before .before .before .before .before .before .start in
+    let multiplier-of = c .before .before .before .before .before .before .before .before .before .before .before .before .multiplier-of in
+    let back = c .before .before .before .before .before .before .before .before .before .before in
+    let start-at = back .before .before .before .start-at in
+    let read-job = back .before .before .before .before .before .read-job in
+    let wide-id = back .before .before .before .before .before .before .before .wide-id in
+    rw (
+      c .tell .ensures,
+      c .before .amount .ensures,
+      c .before .before .bits-of .ensures,
+      c .before .before .before .also .ensures,
+      also-whole (queue-event .result) _ (are-permitted .result) _ (queue-event .ensures),
+      write-job .ensures,
+      completion-at .ensures,
+      are-permitted .ensures,
+      after-start .ensures,
+      start .ensures,
+      multiplier-of .ensures,
+      start-at .ensures,
+      read-job .ensures,
+      wide-id .ensures,
+    )
 
 pub begin-spec : {M : Type 1} → statement M
 begin-spec =

@@ -11,7 +11,9 @@ use Rattle.starts.proofs.begin.begin_all.Statement.{statement}
 use Rattle.starts.proofs.begin.begin_all.Tie as tie
 
 abbrev Inv-loop : tie.InvT-loop
-Inv-loop jobs₀ room₀ options clock count placed n work₀ i₀ jobs room work i = (i ≤ n) × (n ≤ Sizes.jobs) × (n ≤ length placed) × (folded (begun options clock) (wholeBegun work jobs room) (drop i (take n placed)) ≡ folded (begun options clock) (wholeBegun work₀ jobs₀ room₀) (take count placed))
+Inv-loop jobs₀ room₀ options clock count placed n work₀ i₀ jobs room work i =
+    (i ≤ n) × (n ≤ Sizes.jobs) × (n ≤ length placed) ×
+    (folded (begun options clock) (wholeBegun work jobs room) (drop i (take n placed)) ≡ folded (begun options clock) (wholeBegun work₀ jobs₀ room₀) (take count placed))
 
 abbrev μ-loop : tie.MeasureT-loop
 μ-loop jobs₀ room₀ options clock count placed n work₀ i₀ jobs room work i = n - i
@@ -20,7 +22,14 @@ lesser-requires : tie.Need-lesser-requires Inv-loop μ-loop
 lesser-requires c κs = search needs
 
 loop-holds : tie.Need-loop-holds Inv-loop μ-loop
-loop-holds c = (omega arith, omega arith, omega arith, folded-start (begun (c .before .args .options) (c .before .args .clock)) (wholeBegun (c .before .args .b) (c .before .args .jobs .now) (c .before .args .room .now)) (c .before .args .t6) (c .before .args .count) (c .lesser .result) Sizes.jobs (c .lesser .ensures) (omega arith))
+loop-holds c = (
+  omega arith,
+  omega arith,
+  omega arith,
+  folded-start (begun (c .before .args .options) (c .before .args .clock))
+      (wholeBegun (c .before .args .b) (c .before .args .jobs .now) (c .before .args .room .now)) (c .before .args .t6) (c .before .args .count)
+      (c .lesser .result) Sizes.jobs (c .lesser .ensures) (omega arith),
+)
 
 mul-begin : tie.Need-mul-begin Inv-loop μ-loop
 mul-begin c = search needs
@@ -38,10 +47,24 @@ loop-less : tie.Need-loop-less Inv-loop μ-loop
 loop-less c = omega arith
 
 loop-again : tie.Need-loop-again Inv-loop μ-loop
-loop-again c = (omega arith, omega arith, c .before .before .before .before .before .loop .inv .2, rw (c .begin .ensures) (folded-turn (begun (c .before .before .before .before .before .before .before .args .options) (c .before .before .before .before .before .before .before .args .clock)) (wholeBegun (c .before .before .before .before .before .loop .work) (c .before .before .before .before .before .loop .jobs) (c .before .before .before .before .before .loop .room)) (c .before .before .before .before .before .before .before .args .t6) (c .before .before .before .before .before .before .lesser .result) (c .before .before .before .before .before .loop .i) _ _ (omega arith) (c .before .before .before .before .before .loop .inv .2) refl ∙ c .before .before .before .before .before .loop .inv .3))
+loop-again c =
+    let here = c .before .before .before .before .before .loop in
+    let lesser = c .before .before .before .before .before .before .lesser in
+    let start = c .before .before .before .before .before .before .before .args in (
+      omega arith,
+      omega arith,
+      here .inv .2,
+      rw (c .begin .ensures) (folded-turn (begun (start .options) (start .clock)) (wholeBegun (here .work) (here .jobs) (here .room)) (start .t6)
+          (lesser .result) (here .i) _ _ (omega arith) (here .inv .2) refl ∙ here .inv .3),
+    )
 
 returns : tie.Need-returns Inv-loop μ-loop
-returns c = folded-done (begun (c .before .before .before .args .options) (c .before .before .before .args .clock)) (wholeBegun (c .before .loop .work) (c .before .loop .jobs) (c .before .loop .room)) (c .before .before .before .args .t6) (c .before .before .lesser .result) (c .before .loop .i) (omega arith) (omega arith) ∙ c .before .loop .inv .3 ∙ sym (begun-folded (c .before .before .before .args .options) (c .before .before .before .args .clock) (wholeBegun (c .before .before .before .args .b) (c .before .before .before .args .jobs .now) (c .before .before .before .args .room .now)) (take (c .before .before .before .args .count) (c .before .before .before .args .t6)))
+returns c =
+    let here = c .before .loop in
+    let start = c .before .before .before .args in
+    folded-done (begun (start .options) (start .clock)) (wholeBegun (here .work) (here .jobs) (here .room)) (start .t6)
+    (c .before .before .lesser .result) (here .i) (omega arith) (omega arith) ∙ here .inv .3
+    ∙ sym (begun-folded (start .options) (start .clock) (wholeBegun (start .b) (start .jobs .now) (start .room .now)) (take (start .count) (start .t6)))
 
 pub begin-all-spec : {M : Type 1} → statement M
 begin-all-spec =

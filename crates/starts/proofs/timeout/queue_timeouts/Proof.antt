@@ -13,7 +13,10 @@ use Rattle.starts.proofs.timeout.queue_timeouts.Statement.{statement}
 use Rattle.starts.proofs.timeout.queue_timeouts.Tie as tie
 
 abbrev Inv-loop : tie.InvT-loop
-Inv-loop room₀ clock jobs count victims n ahead₀ i₀ room ahead i = (i ≤ n) × (n ≤ Sizes.jobs) × (n ≤ length victims) × (folded (victimQueued clock (jobsOf jobs)) (wholeAhead ahead room) (drop i (take n victims)) ≡ folded (victimQueued clock (jobsOf jobs)) (wholeAhead ahead₀ room₀) (take count victims))
+Inv-loop room₀ clock jobs count victims n ahead₀ i₀ room ahead i =
+    (i ≤ n) × (n ≤ Sizes.jobs) × (n ≤ length victims) ×
+    (folded (victimQueued clock (jobsOf jobs)) (wholeAhead ahead room) (drop i (take n victims)) ≡ folded (victimQueued clock (jobsOf jobs))
+    (wholeAhead ahead₀ room₀) (take count victims))
 
 abbrev μ-loop : tie.MeasureT-loop
 μ-loop room₀ clock jobs count victims n ahead₀ i₀ room ahead i = n - i
@@ -22,7 +25,14 @@ lesser-requires : tie.Need-lesser-requires Inv-loop μ-loop
 lesser-requires c κs = search needs
 
 loop-holds : tie.Need-loop-holds Inv-loop μ-loop
-loop-holds c = (omega arith, omega arith, omega arith, folded-start (victimQueued (c .before .args .clock) (jobsOf (c .before .args .jobs .now))) (wholeAhead (c .before .args .a) (c .before .args .room .now)) (c .before .args .t5) (c .before .args .count) (c .lesser .result) Sizes.jobs (c .lesser .ensures) (omega arith))
+loop-holds c = (
+  omega arith,
+  omega arith,
+  omega arith,
+  folded-start (victimQueued (c .before .args .clock) (jobsOf (c .before .args .jobs .now)))
+      (wholeAhead (c .before .args .a) (c .before .args .room .now)) (c .before .args .t5) (c .before .args .count) (c .lesser .result) Sizes.jobs
+      (c .lesser .ensures) (omega arith),
+)
 
 mul-v : tie.Need-mul-v Inv-loop μ-loop
 mul-v c = search needs
@@ -46,10 +56,25 @@ loop-less : tie.Need-loop-less Inv-loop μ-loop
 loop-less c = omega arith
 
 loop-again : tie.Need-loop-again Inv-loop μ-loop
-loop-again c = (omega arith, omega arith, c .before .before .before .before .before .loop .inv .2, rw (c .queue-timeout .ensures, c .before .read-job .ensures, c .before .before .wide-id .ensures) (folded-turn (victimQueued (c .before .before .before .before .before .before .before .args .clock) (jobsOf (c .before .before .before .before .before .before .before .args .jobs .now))) (wholeAhead (c .before .before .before .before .before .loop .ahead) (c .before .before .before .before .before .loop .room)) (c .before .before .before .before .before .before .before .args .t5) (c .before .before .before .before .before .before .lesser .result) (c .before .before .before .before .before .loop .i) _ _ (omega arith) (c .before .before .before .before .before .loop .inv .2) refl ∙ c .before .before .before .before .before .loop .inv .3))
+loop-again c =
+    let here = c .before .before .before .before .before .loop in
+    let lesser = c .before .before .before .before .before .before .lesser in
+    let start = c .before .before .before .before .before .before .before .args in (
+      omega arith,
+      omega arith,
+      here .inv .2,
+      rw (c .queue-timeout .ensures, c .before .read-job .ensures, c .before .before .wide-id .ensures)
+          (folded-turn (victimQueued (start .clock) (jobsOf (start .jobs .now))) (wholeAhead (here .ahead) (here .room)) (start .t5) (lesser .result)
+          (here .i) _ _ (omega arith) (here .inv .2) refl ∙ here .inv .3),
+    )
 
 returns : tie.Need-returns Inv-loop μ-loop
-returns c = folded-done (victimQueued (c .before .before .before .args .clock) (jobsOf (c .before .before .before .args .jobs .now))) (wholeAhead (c .before .loop .ahead) (c .before .loop .room)) (c .before .before .before .args .t5) (c .before .before .lesser .result) (c .before .loop .i) (omega arith) (omega arith) ∙ c .before .loop .inv .3 ∙ sym (timeouts-folded (c .before .before .before .args .clock) (jobsOf (c .before .before .before .args .jobs .now)) (wholeAhead (c .before .before .before .args .a) (c .before .before .before .args .room .now)) (take (c .before .before .before .args .count) (c .before .before .before .args .t5)))
+returns c =
+    let here = c .before .loop in
+    let start = c .before .before .before .args in
+    folded-done (victimQueued (start .clock) (jobsOf (start .jobs .now))) (wholeAhead (here .ahead) (here .room)) (start .t5)
+    (c .before .before .lesser .result) (here .i) (omega arith) (omega arith) ∙ here .inv .3
+    ∙ sym (timeouts-folded (start .clock) (jobsOf (start .jobs .now)) (wholeAhead (start .a) (start .room .now)) (take (start .count) (start .t5)))
 
 pub queue-timeouts-spec : {M : Type 1} → statement M
 queue-timeouts-spec =

@@ -36,7 +36,8 @@ read-number-requires : tie.Need-read-number-requires
 read-number-requires c κs = search needs
 
 -- the number that was read is that of the bytes from the place on
-told : (c : tie.After-read-number) → c .read-number .result ≡ number (drop (c .before .before .before .before .args .at) (now (c .before .before .before .before .args .s)))
+told : (c : tie.After-read-number) → c .read-number .result ≡ number
+    (drop (c .before .before .before .before .args .at) (now (c .before .before .before .before .args .s)))
 told c = rw (rest (now (c .before .before .before .before .args .s)) (c .before .before .before .before .args .at)) at (c .read-number .ensures)
 
 ranged-field-requires : tie.Need-ranged-field-requires

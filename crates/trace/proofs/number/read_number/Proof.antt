@@ -23,7 +23,10 @@ unfolding number
 loop-holds c = (omega arith, refl, omega arith, start (now (c .before .args .s)))
 
 returns : tie.Need-returns Inv-loop μ-loop
-returns c = rw (at-end (now (c .before .before .before .before .args .s)) (c .before .before .loop .i) (c .before .before .loop .least) (omega arith) (c .if1 .taken)) at (c .before .before .loop .inv .3)
+returns c =
+    let here = c .before .before .loop in
+    let start-call = c .before .before .before .before .args in
+    rw (at-end (now (start-call .s)) (here .i) (here .least) (omega arith) (c .if1 .taken)) at (here .inv .3)
 
 shared-slice-read-wide : tie.Need-shared-slice-read-wide Inv-loop μ-loop
 shared-slice-read-wide c = search needs
@@ -32,30 +35,75 @@ wide-requires : tie.Need-wide-requires Inv-loop μ-loop
 wide-requires c κs = search needs
 
 returns-2 : tie.Need-returns-2 Inv-loop μ-loop
-returns-2 c = rw (at-padded (now (c .before .before .before .before .before .before .before .args .s)) (c .before .before .before .before .before .loop .i) (c .before .before .before .before .before .loop .least) (omega arith) (omega arith) (omega arith)) at (c .before .before .before .before .before .loop .inv .3)
+returns-2 c =
+    let here = c .before .before .before .before .before .loop in
+    let start-call = c .before .before .before .before .before .before .before .args in
+    rw (at-padded (now (start-call .s)) (here .i) (here .least) (omega arith) (omega arith) (omega arith)) at (here .inv .3)
 
 mul-t11 : tie.Need-mul-t11 Inv-loop μ-loop
-mul-t11 c = record { fits = omega (arith, room (c .before .before .before .before .before .before .loop .i) (c .before .before .before .before .before .before .loop .sum) (c .before .before .before .before .before .before .loop .unit) (c .before .before .wide .result) (omega arith) (c .before .before .before .before .before .before .loop .inv .1) (c .before .before .before .before .before .before .loop .inv .2) (omega (arith, c .before .before .before .shared-slice-known2 .given (c .before .before .before .before .before .before .loop .i)))) }
+mul-t11 c =
+    let here = c .before .before .before .before .before .before .loop in
+    record {
+      fits = omega (
+        arith,
+        room (here .i) (here .sum) (here .unit) (c .before .before .wide .result) (omega arith) (here .inv .1)
+            (here .inv .2) (omega (arith, c .before .before .before .shared-slice-known2 .given (here .i))),
+      );
+    }
 
 add-t12 : tie.Need-add-t12 Inv-loop μ-loop
-add-t12 c = record { fits = omega (arith, room (c .before .before .before .before .before .before .loop .i) (c .before .before .before .before .before .before .loop .sum) (c .before .before .before .before .before .before .loop .unit) (c .before .before .wide .result) (omega arith) (c .before .before .before .before .before .before .loop .inv .1) (c .before .before .before .before .before .before .loop .inv .2) (omega (arith, c .before .before .before .shared-slice-known2 .given (c .before .before .before .before .before .before .loop .i)))) }
+add-t12 c =
+    let here = c .before .before .before .before .before .before .loop in
+    record {
+      fits = omega (
+        arith,
+        room (here .i) (here .sum) (here .unit) (c .before .before .wide .result) (omega arith) (here .inv .1)
+            (here .inv .2) (omega (arith, c .before .before .before .shared-slice-known2 .given (here .i))),
+      );
+    }
 
 add-t13 : tie.Need-add-t13 Inv-loop μ-loop
 add-t13 c = search needs
 
 returns-3 : tie.Need-returns-3 Inv-loop μ-loop
 returns-3 c =
+    let here = c .before .before .before .before .before .before .loop in
+    let start-call = c .before .before .before .before .before .before .before .before .args in
     rw (c .before .before .wide .ensures)
-    (rw (at-last (now (c .before .before .before .before .before .before .before .before .args .s)) (c .before .before .before .before .before .before .loop .i) (c .before .before .before .before .before .before .loop .least) (omega arith) (omega arith) (omega arith) (omega arith)) at (c .before .before .before .before .before .before .loop .inv .3))
+    (rw (at-last (now (start-call .s)) (here .i) (here .least) (omega arith) (omega arith) (omega arith) (omega arith)) at (here .inv .3))
 
 mul-sum : tie.Need-mul-sum Inv-loop μ-loop
-mul-sum c = record { fits = omega (arith, room (c .before .before .before .before .before .before .loop .i) (c .before .before .before .before .before .before .loop .sum) (c .before .before .before .before .before .before .loop .unit) (c .before .before .wide .result - 128) (omega arith) (c .before .before .before .before .before .before .loop .inv .1) (c .before .before .before .before .before .before .loop .inv .2) (omega (arith, c .before .before .before .shared-slice-known2 .given (c .before .before .before .before .before .before .loop .i)))) }
+mul-sum c =
+    let here = c .before .before .before .before .before .before .loop in
+    record {
+      fits = omega (
+        arith,
+        room (here .i) (here .sum) (here .unit) (c .before .before .wide .result - 128) (omega arith) (here .inv .1)
+            (here .inv .2) (omega (arith, c .before .before .before .shared-slice-known2 .given (here .i))),
+      );
+    }
 
 add-sum : tie.Need-add-sum Inv-loop μ-loop
-add-sum c = record { fits = omega (arith, room (c .before .before .before .before .before .before .loop .i) (c .before .before .before .before .before .before .loop .sum) (c .before .before .before .before .before .before .loop .unit) (c .before .before .wide .result - 128) (omega arith) (c .before .before .before .before .before .before .loop .inv .1) (c .before .before .before .before .before .before .loop .inv .2) (omega (arith, c .before .before .before .shared-slice-known2 .given (c .before .before .before .before .before .before .loop .i)))) }
+add-sum c =
+    let here = c .before .before .before .before .before .before .loop in
+    record {
+      fits = omega (
+        arith,
+        room (here .i) (here .sum) (here .unit) (c .before .before .wide .result - 128) (omega arith) (here .inv .1)
+            (here .inv .2) (omega (arith, c .before .before .before .shared-slice-known2 .given (here .i))),
+      );
+    }
 
 mul-unit : tie.Need-mul-unit Inv-loop μ-loop
-mul-unit c = record { fits = omega (arith, room (c .before .before .before .before .before .before .loop .i) (c .before .before .before .before .before .before .loop .sum) (c .before .before .before .before .before .before .loop .unit) (c .before .before .wide .result - 128) (omega arith) (c .before .before .before .before .before .before .loop .inv .1) (c .before .before .before .before .before .before .loop .inv .2) (omega (arith, c .before .before .before .shared-slice-known2 .given (c .before .before .before .before .before .before .loop .i)))) }
+mul-unit c =
+    let here = c .before .before .before .before .before .before .loop in
+    record {
+      fits = omega (
+        arith,
+        room (here .i) (here .sum) (here .unit) (c .before .before .wide .result - 128) (omega arith) (here .inv .1)
+            (here .inv .2) (omega (arith, c .before .before .before .shared-slice-known2 .given (here .i))),
+      );
+    }
 
 add-i : tie.Need-add-i Inv-loop μ-loop
 add-i c = search needs
@@ -64,12 +112,19 @@ loop-less : tie.Need-loop-less Inv-loop μ-loop
 loop-less c = omega arith
 
 loop-again : tie.Need-loop-again Inv-loop μ-loop
-loop-again c = (
-  omega arith,
-  rw (c .before .before .before .before .before .before .loop .inv .1, add-one, pow-suc),
-  omega (arith, room (c .before .before .before .before .before .before .loop .i) (c .before .before .before .before .before .before .loop .sum) (c .before .before .before .before .before .before .loop .unit) (c .before .before .wide .result - 128) (omega arith) (c .before .before .before .before .before .before .loop .inv .1) (c .before .before .before .before .before .before .loop .inv .2) (omega (arith, c .before .before .before .shared-slice-known2 .given (c .before .before .before .before .before .before .loop .i)))),
-  rw (← carry-on, c .before .before .wide .ensures, ← at-group (now (c .before .before .before .before .before .before .before .before .args .s)) (c .before .before .before .before .before .before .loop .i) (c .before .before .before .before .before .before .loop .least) (omega arith) (omega arith) (omega arith) (omega arith)) (c .before .before .before .before .before .before .loop .inv .3),
-)
+loop-again c =
+    let wide = c .before .before .wide in
+    let here = c .before .before .before .before .before .before .loop in
+    let start-call = c .before .before .before .before .before .before .before .before .args in (
+      omega arith,
+      rw (here .inv .1, add-one, pow-suc),
+      omega (
+        arith,
+        room (here .i) (here .sum) (here .unit) (wide .result - 128) (omega arith) (here .inv .1) (here .inv .2)
+            (omega (arith, c .before .before .before .shared-slice-known2 .given (here .i))),
+      ),
+      rw (← carry-on, wide .ensures, ← at-group (now (start-call .s)) (here .i) (here .least) (omega arith) (omega arith) (omega arith) (omega arith)) (here .inv .3),
+    )
 
 tenth-byte-requires : tie.Need-tenth-byte-requires Inv-loop μ-loop
 tenth-byte-requires c κs = let e : c .before .loop .i ≡ 9 = omega arith in omega (arith, rw e at (c .before .loop .inv .1))

@@ -1,5 +1,4 @@
 -- `trace::record::least_slices` meets its contract.
-use borrow.Author.Needs.{needs}
 use borrow.Author.Tests.{ne-eqb}
 use Rattle.trace.proofs.record.least_slices.Statement.{statement}
 use Rattle.trace.proofs.record.least_slices.Tie as tie

@@ -1,5 +1,4 @@
 -- `trace::record::most_slices` meets its contract.
-use borrow.Author.Needs.{needs}
 use borrow.Author.Tests.{ne-eqb}
 use Rattle.trace.proofs.record.most_slices.Statement.{statement}
 use Rattle.trace.proofs.record.most_slices.Tie as tie

@@ -37,7 +37,14 @@ returns c =
     let group = mig .before in
     let memory = group .before in
     let kind = memory .before in
-    rw (c .up-to .ensures, card .float-of .ensures, ← kind .read-field .ensures .0, ← memory .next-field .ensures .0, ← group .next-field2 .ensures .0, ← mig .next-field3 .ensures .0)
+    rw (
+      c .up-to .ensures,
+      card .float-of .ensures,
+      ← kind .read-field .ensures .0,
+      ← memory .next-field .ensures .0,
+      ← group .next-field2 .ensures .0,
+      ← mig .next-field3 .ensures .0,
+    )
 
 pub read-gpu-spec : {M : Type 1} → statement M
 read-gpu-spec =

@@ -127,7 +127,12 @@ float-of-requires-4 : tie.Need-float-of-requires-4
 float-of-requires-4 c κs = timeout (c .before .before .before .before .before .before .before .before .before .before .before) .next-field11 .ensures .1
 
 cast-t31 : tie.Need-cast-t31
-cast-t31 c = record { fits = omega (arith, profile (c .before .before .before .before .before .before .before .before .before .before .before .before .before) .next-field12 .ensures .1) }
+cast-t31 c = record {
+  fits = omega (
+    arith,
+    profile (c .before .before .before .before .before .before .before .before .before .before .before .before .before) .next-field12 .ensures .1,
+  );
+}
 
 cast-t32 : tie.Need-cast-t32
 cast-t32 c =
@@ -152,7 +157,12 @@ returns c =
     (rw (← arrival slices .read-field .ensures .0, ← duration slices .next-field .ensures .0, ← priority slices .next-field2 .ensures .0)
     (rw (← count slices .next-field3 .ensures .0, ← memory slices .next-field4 .ensures .0, ← kind slices .next-field5 .ensures .0)
     (rw (← site slices .next-field6 .ensures .0, ← tenant slices .next-field7 .ensures .0, ← gang slices .next-field8 .ensures .0)
-    (rw (← nodes slices .next-field9 .ensures .0, ← network slices .next-field10 .ensures .0, ← timeout slices .next-field11 .ensures .0, ← profile slices .next-field12 .ensures .0)
+    (rw (
+      ← nodes slices .next-field9 .ensures .0,
+      ← network slices .next-field10 .ensures .0,
+      ← timeout slices .next-field11 .ensures .0,
+      ← profile slices .next-field12 .ensures .0,
+    )
     (rw (← slices .before .before .least-slices .ensures, ← slices .before .most-slices .ensures, ← slices .next-field13 .ensures .0)))))))
 
 pub read-job-spec : {M : Type 1} → statement M
