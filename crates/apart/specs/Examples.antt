@@ -41,8 +41,7 @@ asks priority count evictions state =
         kind = 0;
         site = 0;
         tenant = 0;
-        gang =
-            false;
+        gang = false;
         nodes = 0;
         network = false;
         timeout = zero·0;

@@ -304,7 +304,6 @@ module _ (clock : Float) (p : Pass) (so : Standing p) (id : ℕ) (vs : List ℕ)
         e,
         record {
           waiting = rw e (looked .waiting);
-          spared =
-              rw (clear-behind, has-append id (victimsOf (p .line)) vs) (none-or (has id (victimsOf (p .line))) (has id vs) (looked .spared) h);
+          spared = rw (clear-behind, has-append id (victimsOf (p .line)) vs) (none-or (has id (victimsOf (p .line))) (has id vs) (looked .spared) h);
         },
       )

@@ -94,11 +94,9 @@ startOf options clock b p = Life.startAt (jobOf b p) clock options (p .cut)
 -- its completion: the next insertion number, the run generation raised by one
 abbrev pub completionOf : Options → Float → Begun → Placing → Event
 completionOf options clock b p = record {
-  time =
-      Life.completionAt (jobOf b p) (startOf options clock b p) (Life.multiplierOf options (p .penalised));
+  time = Life.completionAt (jobOf b p) (startOf options clock b p) (Life.multiplierOf options (p .penalised));
   number = b .ahead .next;
-  kind =
-      Completion;
+  kind = Completion;
   job = p .job;
   generation = (jobOf b p .run + 1) % 2 ^ 32;
 }

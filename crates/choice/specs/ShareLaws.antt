@@ -18,10 +18,6 @@ use Rattle.fit.specs.Right.{key-distinct}
 use Rattle.choice.specs.Share.{holds, shareGroup, parted, share}
 
 module _ (groups here : List ℕ) (per : ℕ) where
-  group-range : shareGroup groups per here ≤ 257
-  unfolding shareGroup
-  group-range = omega (arith, first-range (holds (tallyOf groups here) per) 257 0 .1)
-
   -- a group before the one chosen has too few
   pub group-before : (k : ℕ) → k < shareGroup groups per here → countOf groups here k < per
   unfolding shareGroup

@@ -26,8 +26,7 @@ withOwner owner g = record {
   group = g .group;
   mig = g .mig;
   owner = owner;
-  profile =
-      g .profile;
+  profile = g .profile;
   slices = g .slices;
   owners = g .owners;
 }

@@ -31,8 +31,7 @@ withEvent p = record {
   jobs = p .jobs;
   queue = p .queue;
   waiting = p .waiting;
-  events =
-      taken (p .events) (least (p .events));
+  events = taken (p .events) (least (p .events));
   next = p .next;
   clock = nextEvent p .time;
   totals = p .totals;
@@ -75,8 +74,7 @@ withFound p f = record {
   jobs = p .jobs;
   queue = p .queue;
   waiting = p .waiting;
-  events =
-      taken (p .events) (f .at);
+  events = taken (p .events) (f .at);
   next = p .next;
   clock = f .event .time;
   totals = p .totals;

@@ -93,7 +93,6 @@ happened-lent r f gpus jobs room mid m t e =
       waiting = r .waiting;
       events = x;
       next = r .next;
-      clock =
-          f .event .time;
+      clock = f .event .time;
       totals = r .totals;
     }) (f .event)) t

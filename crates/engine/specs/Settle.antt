@@ -64,8 +64,7 @@ cleared m =
         jobs = p .jobs;
         queue = replicate Sizes.jobs 0;
         waiting = p .waiting;
-        events =
-            p .events;
+        events = p .events;
         next = p .next;
         clock = p .clock;
         totals = p .totals;

@@ -43,8 +43,7 @@ heldJob j = record {
   since = j .since;
   start = j .start;
   remaining = j .remaining;
-  waited =
-      j .waited;
+  waited = j .waited;
   evictions = j .evictions;
   run = j .run;
   timeouts = j .timeouts;
@@ -57,8 +56,7 @@ jobIn h = record {
   since = h .since;
   start = h .start;
   remaining = h .remaining;
-  waited =
-      h .waited;
+  waited = h .waited;
   evictions = h .evictions;
   run = h .run;
   timeouts = h .timeouts;
@@ -78,8 +76,7 @@ heldPlan p = record {
   jobs = map heldJob (p .jobs);
   queue = p .queue;
   waiting = p .waiting;
-  events =
-      map heldEvent (p .events);
+  events = map heldEvent (p .events);
   next = p .next;
   clock = p .clock;
   totals = p .totals;
@@ -93,8 +90,7 @@ planIn h = record {
   jobs = map jobIn (h .jobs);
   queue = h .queue;
   waiting = h .waiting;
-  events =
-      map eventIn (h .events);
+  events = map eventIn (h .events);
   next = h .next;
   clock = h .clock;
   totals = h .totals;

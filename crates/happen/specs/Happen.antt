@@ -39,8 +39,7 @@ wholePlan r gpus jobs room = record {
   jobs = jobsOf jobs;
   queue = r .queue;
   waiting = r .waiting;
-  events =
-      eventsOf room;
+  events = eventsOf room;
   next = r .next;
   clock = r .clock;
   totals = r .totals;
@@ -97,8 +96,7 @@ withAhead p a = record {
   queue = p .queue;
   waiting = p .waiting;
   events = a .events;
-  next =
-      a .next;
+  next = a .next;
   clock = p .clock;
   totals = p .totals;
 }
@@ -120,8 +118,7 @@ completes p id =
       gpus = map (freed (plusOne id)) (p .gpus);
       jobs = set (p .jobs) id (Life.ends j);
       queue = p .queue;
-      waiting =
-          p .waiting;
+      waiting = p .waiting;
       events = p .events;
       next = p .next;
       clock = p .clock;
@@ -143,8 +140,7 @@ timesOut p id =
       queue = pad Sizes.jobs 0 left;
       waiting = length left;
       events = p .events;
-      next =
-          p .next;
+      next = p .next;
       clock = p .clock;
       totals = p .totals;
     })

@@ -123,8 +123,7 @@ module _ (s : Setting) (jobs₀ jobs : List Job) (h : List Decision) (g : Good s
       refl b refl
       (record {
         run-is = let r : jobAt jobs k .run ≡ jobAt jobs k .evictions + begun (jobAt jobs k .state) = g .each k .run-is in rw e at r;
-        few =
-            g .each k .few;
+        few = g .each k .few;
         waits-few = waits-timeouts (jobAt jobs k) clock e (g .each k .waits-few);
       })
       (omega arith) (omega arith)
@@ -142,8 +141,7 @@ module _ (s : Setting) (jobs₀ jobs : List Job) (h : List Decision) (g : Good s
       refl b refl
       (record {
         run-is = let r : jobAt jobs k .run ≡ jobAt jobs k .evictions + begun (jobAt jobs k .state) = g .each k .run-is in rw e at r;
-        few =
-            g .each k .few;
+        few = g .each k .few;
         waits-few = let q : jobAt jobs k .timeouts ≤ came (jobAt jobs k .state) + jobAt jobs k .run = g .each k .waits-few in rw e at q;
       })
       (omega arith) (omega arith)
@@ -161,8 +159,7 @@ module _ (s : Setting) (jobs₀ jobs : List Job) (h : List Decision) (g : Good s
       refl b refl
       (record {
         run-is = let r : jobAt jobs k .run ≡ jobAt jobs k .evictions + begun (jobAt jobs k .state) = g .each k .run-is in rw e at r;
-        few =
-            g .each k .few;
+        few = g .each k .few;
         waits-few = let q : jobAt jobs k .timeouts ≤ came (jobAt jobs k .state) + jobAt jobs k .run = g .each k .waits-few in rw e at q;
       })
       (omega arith) (omega arith)
@@ -184,8 +181,7 @@ module _ (s : Setting) (jobs₀ jobs : List Job) (h : List Decision) (g : Good s
       (record {
         run-is = omega (arith, r, l);
         few = omega (arith, l);
-        waits-few =
-            let q : jobAt jobs k .timeouts ≤ came (jobAt jobs k .state) + jobAt jobs k .run = g .each k .waits-few in rw e at q;
+        waits-few = let q : jobAt jobs k .timeouts ≤ came (jobAt jobs k .state) + jobAt jobs k .run = g .each k .waits-few in rw e at q;
       })
       (omega (arith, l)) (omega arith)
       refl
@@ -218,8 +214,7 @@ module _ (s : Setting) (jobs₀ jobs : List Job) (h : List Decision) (g : Good s
       b refl
       (record {
         run-is = let r : jobAt jobs k .run ≡ jobAt jobs k .evictions + begun (jobAt jobs k .state) = g .each k .run-is in rw e at r;
-        few =
-            g .each k .few;
+        few = g .each k .few;
         waits-few = let q : jobAt jobs k .timeouts ≤ came (jobAt jobs k .state) + jobAt jobs k .run = g .each k .waits-few in rw e at q;
       })
       refl refl

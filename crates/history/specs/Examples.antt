@@ -42,8 +42,7 @@ job tenant priority count gang nodes evictions state =
         memory = zero·0;
         kind = 0;
         site = 0;
-        tenant =
-            tenant;
+        tenant = tenant;
         gang = gang;
         nodes = nodes;
         network = false;
@@ -72,8 +71,7 @@ card node owner = record {
   owner = owner;
   profile = 0;
   slices = 0;
-  owners =
-      0 ∷ 0 ∷ 0 ∷ 0 ∷ 0 ∷ 0 ∷ 0 ∷ [];
+  owners = 0 ∷ 0 ∷ 0 ∷ 0 ∷ 0 ∷ 0 ∷ 0 ∷ [];
 }
 
 -- so many nodes, GPUs and jobs; tenant 0's quota is kept plus 1, 0 for none

@@ -29,3 +29,4 @@ pub mod Owned
 pub mod OwnersSettles
 pub mod QueueLined
 pub mod QueuePass
+pub mod CutLaws

@@ -55,8 +55,7 @@ queued-grown k a time kind job generation u n l b c =
     record {
       counted = record {
         size = length-set (a .events) (firstFree (a .events)) e ∙ c .size;
-        count =
-            omega (arith, next, c .count, added-use (a .events) (c .size) e u (omega (arith, c .count, b)));
+        count = omega (arith, next, c .count, added-use (a .events) (c .size) e u (omega (arith, c .count, b)));
       };
       next = next;
       arrivals = λ i. added-arriving (a .events) (c .size) e i n;

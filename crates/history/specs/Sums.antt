@@ -56,8 +56,7 @@ evicted-small n queue t q s =
     record {
       evictions = more-fits (t .evictions) n true (s .evictions);
       cuts = omega (arith, s .cuts);
-      penalised =
-          omega (arith, s .penalised);
+      penalised = omega (arith, s .penalised);
       longest = larger-fits (t .longest) queue 128 (s .longest) q;
     }
 
@@ -69,8 +68,7 @@ started-small n t cut penalised remaining multiplier s =
     record {
       evictions = omega (arith, s .evictions);
       cuts = more-fits (t .cuts) n cut (s .cuts);
-      penalised =
-          more-fits (t .penalised) n penalised (s .penalised);
+      penalised = more-fits (t .penalised) n penalised (s .penalised);
       longest = s .longest;
     }
 

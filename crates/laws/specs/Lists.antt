@@ -170,11 +170,6 @@ module _ {A : Type 0} where
       (tt, tt)
       (all-weaken (λ y. x ≡ y → ⊥) (λ y. Apart y (x ∷ [])) l (λ y f. (λ e. f (sym e), tt)) k)
 
-  -- what stands in the middle stands nowhere else
-  pub distinct-middle : (l : List A) (x : A) (r : List A) → Distinct (l ++ (x ∷ r)) → Apart x l × Apart x r
-  distinct-middle l x r h =
-      (all-weaken (λ y. Apart y (x ∷ r)) (λ y. x ≡ y → ⊥) l (λ y f e. f .0 (sym e)) (distinct-parts l (x ∷ r) h), distinct-right l (x ∷ r) h .0)
-
   -- two places hold two elements
   pub distinct-at : (l : List A) (i j : ℕ) (d : A) → Distinct l → i < j → j < length l → getD l i d ≡ getD l j d → ⊥
   distinct-at [] i j d h a b e = omega arith
@@ -225,14 +220,6 @@ module _ {A : Type 0} (l : List A) (i : ℕ) (y d : A) where
   -- a field that the write keeps is kept everywhere
   pub set-kept : {B : Type 0} (g : A → B) → g y ≡ g (getD l i d) → (k : ℕ) → g (getD (set l i y) k d) ≡ g (getD l k d)
   set-kept g h k = set-related (λ a b. g b ≡ g a) (λ x. refl) h k
-
-  -- a field that the write does not lower is lowered nowhere
-  pub set-up : (g : A → ℕ) → g (getD l i d) ≤ g y → (k : ℕ) → g (getD l k d) ≤ g (getD (set l i y) k d)
-  set-up g h k = set-related (λ a b. g a ≤ g b) (λ x. omega arith) h k
-
-  -- a field that the write does not raise is raised nowhere
-  pub set-down : (g : A → ℕ) → g y ≤ g (getD l i d) → (k : ℕ) → g (getD (set l i y) k d) ≤ g (getD l k d)
-  set-down g h k = set-related (λ a b. g b ≤ g a) (λ x. omega arith) h k
 
   -- in range: what is written stands there, and each other as before
   pub set-at : (P : ℕ → A → Type 0) → i < length l → P i y → ((k : ℕ) → (k ≡ i → ⊥) → P k (getD l k d)) → (k : ℕ) → P k (getD (set l i y) k d)

@@ -6,8 +6,7 @@ use mathlib.Core.List.{List, [], _∷_, _++_, append-nil, List·Memᴰ, List·Me
 use Prim.Native.Nat.{ℕ, zero, suc, _+_, _-_, _≤_, _<_}
 use native.Mathlib.Omega.{arith}
 use lib.Dec.{eqb}
-use lib.ListN.{length, getD, take, length-take}
-use lib.Seq.{length-take-le, take-all, take-append-le}
+use lib.ListN.{length, getD, take}
 use borrow.Author.Tests.{eqb-true, eq-eqb}
 use Rattle.laws.specs.Choice.{pick}
 use Rattle.laws.specs.Lists.{All, Apart, Distinct, all-member, all-members, all-of}
@@ -348,40 +347,6 @@ those-shift p j (suc m) i =
     keep-same (p (i + j)) i (i + j) (those (λ k. p (k + j)) m (i + 1)) (those p m (i + j + 1)) (those-shift p j m (i + 1) ∙ rw e)
 
 -- ---- the first n of those
-
--- there are n if there are as many
-pub those-first-length : (p : ℕ → Bool) (n m i : ℕ) → n ≤ length (those p m i) → length (take n (those p m i)) ≡ n
-those-first-length p n m i h = length-take-le n (those p m i) h
-
--- there are at most n, and at most m
-pub those-first-most : (p : ℕ → Bool) (n m i : ℕ) → (length (take n (those p m i)) ≤ n) × (length (take n (those p m i)) ≤ m)
-those-first-most p n m i =
-    (simp length-take (omega arith), simp length-take (omega (arith, those-length p m i)))
-
--- each is in range and has the property
-pub those-first-in : (p : ℕ → Bool) (n m i k : ℕ) → has k (take n (those p m i)) ≡ true → (i ≤ k) × (k < i + m) × (p k ≡ true)
-those-first-in p n m i k h = those-in p m i k (has-take k n (those p m i) h)
-
--- first fit: whatever has the property and stands before a chosen one is chosen too
-pub those-first-fit : (p : ℕ → Bool) (n m i j k : ℕ) → i ≤ j → j < k → p j ≡ true → has k (take n (those p m i)) ≡ true → has j (take n (those p m i)) ≡ true
-those-first-fit p n m i j k a b t h =
-    let r : (i ≤ k) × (k < i + m) × (p k ≡ true) = those-first-in p n m i k h in
-    rising-before i n j k (those p m i) (those-rising p m i) b (those-has p m i j a (omega arith) t) h
-
--- if one with the property is not chosen then n are
-pub those-first-full : (p : ℕ → Bool) (n m i j : ℕ) → i ≤ j → j < i + m → p j ≡ true → has j (take n (those p m i)) ≡ false → length (take n (those p m i)) ≡ n
-those-first-full p n m i j a b t h =
-    ⊎-elim
-    (λ s. absurd
-    (never-both (those-has p m i j a b t) (rw (take-all n (those p m i) s) at h)))
-    (λ s. length-take-le n (those p m i) (omega arith))
-    (le-or-lt (length (those p m i)) n)
-
--- once there are n the rest of the range does not matter
-pub those-enough : (p : ℕ → Bool) (n m i : ℕ) → i ≤ m → n ≤ length (those p i 0) → take n (those p m 0) ≡ take n (those p i 0)
-those-enough p n m i a h =
-    let e : m ≡ i + (m - i) = omega arith in
-    ap (λ (k : ℕ). take n (those p k 0)) e ∙ rw (those-add p i (m - i) 0, take-append-le n (those p i 0) (those p (m - i) (0 + i)))
 
 -- ---- the first that has the property
 

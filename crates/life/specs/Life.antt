@@ -27,8 +27,7 @@ waits j clock = record {
   start = j .start;
   remaining = j .remaining;
   waited = j .waited;
-  evictions =
-      j .evictions;
+  evictions = j .evictions;
   run = j .run;
   timeouts = raised (j .timeouts) (timed (j .ask));
 }
@@ -41,8 +40,7 @@ fails j clock = record {
   since = j .since;
   start = j .start;
   remaining = j .remaining;
-  waited =
-      add binary64 (j .waited) (sub binary64 clock (j .since));
+  waited = add binary64 (j .waited) (sub binary64 clock (j .since));
   evictions = j .evictions;
   run = j .run;
   timeouts = j .timeouts;
@@ -57,8 +55,7 @@ ends j = record {
   start = j .start;
   remaining = j .remaining;
   waited = j .waited;
-  evictions =
-      j .evictions;
+  evictions = j .evictions;
   run = j .run;
   timeouts = j .timeouts;
 }
@@ -79,8 +76,7 @@ evicted j clock = record {
   since = clock;
   start = j .start;
   remaining = leftAfter j clock;
-  waited =
-      j .waited;
+  waited = j .waited;
   evictions = (j .evictions + 1) % 2 ^ 32;
   run = j .run;
   timeouts = j .timeouts;
@@ -95,8 +91,7 @@ placed j = record {
   start = j .start;
   remaining = j .remaining;
   waited = j .waited;
-  evictions =
-      j .evictions;
+  evictions = j .evictions;
   run = j .run;
   timeouts = j .timeouts;
 }
@@ -125,8 +120,7 @@ started j at = record {
   since = j .since;
   start = at;
   remaining = j .remaining;
-  waited =
-      add binary64 (j .waited) (sub binary64 at (j .since));
+  waited = add binary64 (j .waited) (sub binary64 at (j .since));
   evictions = j .evictions;
   run = (j .run + 1) % 2 ^ 32;
   timeouts = raised (j .timeouts) (j .ask .gang);

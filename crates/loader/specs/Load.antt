@@ -33,8 +33,7 @@ planOf t = record {
   jobs = t .jobs;
   queue = replicate Sizes.jobs 0;
   waiting = 0;
-  events =
-      arrivals (t .jobs) (t .setting .jobs);
+  events = arrivals (t .jobs) (t .setting .jobs);
   next = t .setting .jobs;
   clock = zero·0;
   totals = noTotals;

@@ -43,8 +43,7 @@ gpuOf card nodes = record {
   group = card .group;
   mig = card .mig;
   owner = 0;
-  profile =
-      0;
+  profile = 0;
   slices = 0;
   owners = replicate Sizes.slices 0;
 }
@@ -57,8 +56,7 @@ putNode s site = record {
   gpus = s .gpus;
   jobs = s .jobs;
   quotas = s .quotas;
-  mosts =
-      s .mosts;
+  mosts = s .mosts;
   options = s .options;
 }
 
@@ -69,8 +67,7 @@ putLimit s tenant quota = record {
   nodes = s .nodes;
   gpus = s .gpus;
   jobs = s .jobs;
-  quotas =
-      set (s .quotas) tenant (quota + 1);
+  quotas = set (s .quotas) tenant (quota + 1);
   mosts = s .mosts;
   options = s .options;
 }
@@ -83,8 +80,7 @@ putProfile s profile most = record {
   gpus = s .gpus;
   jobs = s .jobs;
   quotas = s .quotas;
-  mosts =
-      set (s .mosts) profile most;
+  mosts = set (s .mosts) profile most;
   options = s .options;
 }
 

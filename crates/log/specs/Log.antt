@@ -31,8 +31,7 @@ emptyLog = record { table = replicate most noDecision; count = 0 }
 -- One more decision; a full log stays as it is.
 unfoldable pub told : Log → ℕ → Kind → ℕ → ℕ → Log
 told log time kind job other = record {
-  table =
-      set (log .table) (log .count) (record { time = time; kind = kind; job = job; other = other });
+  table = set (log .table) (log .count) (record { time = time; kind = kind; job = job; other = other });
   count = onward (log .count) most;
 }
 

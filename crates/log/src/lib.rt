@@ -4,7 +4,7 @@ pub mod words;
 
 use small::onward;
 ghost use mathlib.Core.Path.{_≡_};
-ghost use lib.ListN.{getD, set};
+ghost use lib.ListN.{set};
 ghost use Rattle.log.specs.Log.{noDecision, emptyLog, kindWord, told};
 
 // At most: the event's own, and one for each job.
@@ -94,15 +94,6 @@ pub fn first_log(time: u64, kind: Kind, job: u16, other: u16) -> Log
         table: table,
         count: 1,
     }
-}
-
-pub fn decision_at(table: [Decision; DECISIONS], i: usize) -> Decision
-    ensures { λ r. ⌜ r ≡ getD table i noDecision ⌝ }
-{
-    if i < DECISIONS {
-        return table[i];
-    }
-    no_decision()
 }
 
 pub fn kind_word(kind: Kind) -> u64

@@ -31,8 +31,7 @@ freed owner g = record {
   memory = g .memory;
   group = g .group;
   mig = g .mig;
-  owner =
-      withoutOwner owner (g .owner);
+  owner = withoutOwner owner (g .owner);
   profile = g .profile;
   slices = g .slices;
   owners = map (withoutOwner owner) (g .owners);

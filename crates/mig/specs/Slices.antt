@@ -38,8 +38,7 @@ cutAnew g profile slices = record {
   group = g .group;
   mig = g .mig;
   owner = 0;
-  profile =
-      profile;
+  profile = profile;
   slices = slices;
   owners = replicate Sizes.slices 0;
 }
@@ -53,8 +52,7 @@ withOwners g owners = record {
   group = g .group;
   mig = g .mig;
   owner = g .owner;
-  profile =
-      g .profile;
+  profile = g .profile;
   slices = g .slices;
   owners = owners;
 }

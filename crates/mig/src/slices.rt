@@ -8,13 +8,7 @@ use small::lesser;
 use small::one_if;
 use small::wide;
 ghost use mathlib.Core.Path.{_≡_};
-ghost use Rattle.mig.specs.Slices.{cut, sliceCount, freeSlice, freeSlices, cutAnew, givenSlices};
-
-pub fn is_cut(g: Gpu) -> bool
-    ensures { λ r. ⌜ r ≡ cut g ⌝ }
-{
-    g.slices > 0
-}
+ghost use Rattle.mig.specs.Slices.{sliceCount, freeSlice, freeSlices, cutAnew, givenSlices};
 
 pub fn slice_count(g: Gpu) -> usize
     ensures { λ r. ⌜ r ≡ sliceCount g ⌝ }

@@ -17,8 +17,7 @@ noAsk = record {
   site = 0;
   tenant = 0;
   gang = false;
-  nodes =
-      0;
+  nodes = 0;
   network = false;
   timeout = zero·0;
   profile = 0;

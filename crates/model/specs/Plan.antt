@@ -15,8 +15,7 @@ emptyPlan = record {
   setting = emptySetting;
   gpus = replicate Sizes.gpus noGpu;
   jobs = replicate Sizes.jobs noJob;
-  queue =
-      replicate Sizes.jobs 0;
+  queue = replicate Sizes.jobs 0;
   waiting = 0;
   events = replicate Sizes.events emptyEvent;
   next = 0;

@@ -23,7 +23,6 @@ emptySetting = record {
   gpus = 0;
   jobs = 0;
   quotas = replicate Sizes.tenants 0;
-  mosts =
-      replicate Sizes.profiles 0;
+  mosts = replicate Sizes.profiles 0;
   options = defaultOptions;
 }

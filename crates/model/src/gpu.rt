@@ -2,7 +2,7 @@
 
 use crate::sizes::SLICES;
 ghost use mathlib.Core.Path.{_≡_};
-ghost use lib.ListN.{getD, set};
+ghost use lib.ListN.{getD};
 ghost use Rattle.model.specs.Gpu.{noGpu};
 
 // An owner is a job's number plus 1, or 0 for nobody; group and profile are stored likewise.
@@ -42,14 +42,4 @@ pub fn slice_owner_at(owners: [u16; SLICES], i: usize) -> u16
         return owners[i];
     }
     0
-}
-
-pub fn put_slice_owner(owners: [u16; SLICES], i: usize, x: u16) -> [u16; SLICES]
-    ensures { λ r. ⌜ r ≡ set owners i x ⌝ }
-{
-    let mut table = owners;
-    if i < SLICES {
-        table[i] = x;
-    }
-    table
 }

@@ -34,6 +34,5 @@ started t cut penalised remaining multiplier =
       cuts = more (t .cuts) cut;
       penalised = more (t .penalised) penalised;
       longest = t .longest;
-      added =
-          grown (t .added) penalised remaining multiplier;
+      added = grown (t .added) penalised remaining multiplier;
     }

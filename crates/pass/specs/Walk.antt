@@ -18,8 +18,7 @@ withQueue line queue = record {
   waiting = line .waiting;
   victims = line .victims;
   evicted = line .evicted;
-  totals =
-      line .totals;
+  totals = line .totals;
   log = line .log;
   ok = line .ok;
 }
@@ -30,8 +29,7 @@ sorted p = record {
   gpus = p .gpus;
   jobs = p .jobs;
   line = withQueue (p .line) (sortedQueue (p .jobs) (p .line .queue) (p .line .waiting));
-  placed =
-      p .placed;
+  placed = p .placed;
   count = p .count;
 }
 

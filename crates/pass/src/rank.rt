@@ -13,7 +13,6 @@ use small::both;
 use small::lesser;
 use small::wide_id;
 ghost use mathlib.Core.Path.{_≡_};
-ghost use mathlib.Core.List.{map};
 ghost use Rattle.rows.specs.Gpu.{gpusOf};
 ghost use Rattle.rows.specs.Job.{jobsOf};
 ghost use Rattle.pass.specs.Rank.{holderRank, rankOf, ranksOf, lowRanks};

@@ -47,8 +47,7 @@ small-up : (m n : ℕ) (t : Totals) → m ≤ n → Small m t → Small n t
 small-up m n t l s = record {
   evictions = omega (arith, l, s .evictions);
   cuts = omega (arith, l, s .cuts);
-  penalised =
-      omega (arith, l, s .penalised);
+  penalised = omega (arith, l, s .penalised);
   longest = s .longest;
 }
 

@@ -81,8 +81,7 @@ said-first s least most f h =
     let z : f .end ≡ h .size = omega (arith, h .ends) in
     record {
       some = omega (arith, number-some s (f .value) (h .size) (h .reads));
-      bytes =
-          λ b. rw z (reads-form (f .value) (h .size) s b (h .reads) .1 ∙ sym (append-nil (form (f .value))));
+      bytes = λ b. rw z (reads-form (f .value) (h .size) s b (h .reads) .1 ∙ sym (append-nil (form (f .value))));
     }
 
 -- one field more

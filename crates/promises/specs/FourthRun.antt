@@ -123,8 +123,7 @@ module _ (trace : List ℕ) where
       record {
         time = bitsOf (Life.completionAt x (x .start) (Life.multiplierOf (q .setting .options) penalised));
         kind = Kinds.Completed;
-        job =
-            j;
+        job = j;
         other = amount (x .ask);
       }
 

@@ -157,8 +157,7 @@ completes-amid jobs₀ k h p id b run =
       gpus = map (freed (plusOne id)) (p .gpus);
       jobs = set (p .jobs) id j;
       queue = p .queue;
-      waiting =
-          p .waiting;
+      waiting = p .waiting;
       events = p .events;
       next = p .next;
       clock = p .clock;
@@ -197,8 +196,7 @@ fails-amid jobs₀ k h p id b wait =
       jobs = jobs;
       queue = pad 128 0 left;
       waiting = length left;
-      events =
-          p .events;
+      events = p .events;
       next = p .next;
       clock = p .clock;
       totals = p .totals;

@@ -31,3 +31,4 @@ pub mod ToldFew
 pub mod OneHistory
 pub mod RunWords
 pub mod LentWords
+pub mod CutStays

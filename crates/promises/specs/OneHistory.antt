@@ -71,8 +71,7 @@ module _ (trace : List ℕ) where
         told = g ++ decisions (advanced q .log);
         rest = [];
         reached = rw z (onward r b e);
-        whole =
-            sym (append-nil (g ++ decisions (advanced q .log)));
+        whole = sym (append-nil (g ++ decisions (advanced q .log)));
       })
       (λ a.
       let f : Front trace k g = front k m q g r (omega (arith, a)) in

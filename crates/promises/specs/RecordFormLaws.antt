@@ -277,23 +277,19 @@ job-whole s k e =
       ranged = record {
         arrival = rw arrival-back (arrival-in .high);
         duration = rw duration-back (duration-in .high);
-        priority =
-            priority-small (priority .value) (priority-in .high);
+        priority = priority-small (priority .value) (priority-in .high);
         count = count-in .high;
         memory = rw memory-back (memory-in .high);
-        kind =
-            kind-in .high;
+        kind = kind-in .high;
         site = site-in .high;
         tenant = tenant-in .high;
         nodes = nodes-in .high;
-        timeout =
-            rw timeout-back (timeout-in .high);
+        timeout = rw timeout-back (timeout-in .high);
         profile = profile-in .high;
         least = slices-in .low;
         most = slices-in .high;
       };
-      said =
-          rw (arrival-back, duration-back, priority-back, memory-back, gang-back, network-back, timeout-back) slices-said;
+      said = rw (arrival-back, duration-back, priority-back, memory-back, gang-back, network-back, timeout-back) slices-said;
     }
 
 options-whole : (s : List ℕ) → Said s (6 ∷ []) 1 → optionsRead s .answer ≡ Accepted → Whole s (optionsRead s)

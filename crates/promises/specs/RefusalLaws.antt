@@ -205,8 +205,7 @@ load-refusal trace = by-outcome (load trace) (load-outcome trace)
           holds = reached-holds w;
           bytes = reached-forms w;
           here = q;
-          because =
-              λ b. stopped-because b (reached-inside w) (reached-holds w) q;
+          because = λ b. stopped-because b (reached-inside w) (reached-holds w) q;
           behind = p .0;
           inside = p .1;
           fits = s;

@@ -197,8 +197,7 @@ module _ (j i : ℕ) (p : Plan) (id : ℕ) (other : j ≡ id → ⊥) where
       let a : Ahead = record { events = p .events; next = p .next; ok = true } in
       record {
         job = getD-set-other (p .jobs) id j x noJob other;
-        entry =
-            timeout-beside (p .events) a id x (x .ask .arrival) (beside-none (p .events) s) .wider .stays i u;
+        entry = timeout-beside (p .events) a id x (x .ask .arrival) (beside-none (p .events) s) .wider .stays i u;
       }
 
   completes-on : RunGoesOn p j i (completes p id .plan)

@@ -153,10 +153,8 @@ settled-told jobs₀ jobs k h m a e =
     let d : Distinct (placedOf q) = distinct-right (victimsOf (q .line)) (placedOf q) (so .once) in
     let b : Begun = record {
       jobs = q .jobs;
-      ahead =
-          timeoutsQueued (p .clock) (q .jobs) (record { events = p .events; next = p .next; ok = q .line .ok }) (victimsOf (q .line));
-      totals =
-          q .line .totals;
+      ahead = timeoutsQueued (p .clock) (q .jobs) (record { events = p .events; next = p .next; ok = q .line .ok }) (victimsOf (q .line));
+      totals = q .line .totals;
       log = q .line .log;
     } in
     let began : allDecided (begunAll (p .setting .options) (p .clock) b ps .jobs) ≡ allDecided (q .jobs) + length ps =

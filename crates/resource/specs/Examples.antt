@@ -39,8 +39,7 @@ asks tenant count gang nodes state =
         kind = 0;
         site = 0;
         tenant = tenant;
-        gang =
-            gang;
+        gang = gang;
         nodes = nodes;
         network = false;
         timeout = zero·0;
@@ -68,8 +67,7 @@ card node owner = record {
   owner = owner;
   profile = 0;
   slices = 0;
-  owners =
-      0 ∷ 0 ∷ 0 ∷ 0 ∷ 0 ∷ 0 ∷ 0 ∷ [];
+  owners = 0 ∷ 0 ∷ 0 ∷ 0 ∷ 0 ∷ 0 ∷ 0 ∷ [];
 }
 
 -- so many nodes, GPUs and jobs; tenant 0 has this quota, kept plus 1

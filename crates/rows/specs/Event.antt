@@ -38,8 +38,7 @@ eventOf entry = record {
   time = ofBits binary64 (getD entry 0 0);
   number = getD entry 1 0;
   kind = kindOf (getD entry 2 0);
-  job =
-      getD entry 3 0 % 65536;
+  job = getD entry 3 0 % 65536;
   generation = getD entry 4 0 % 4294967296;
 }
 

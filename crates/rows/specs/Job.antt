@@ -43,18 +43,15 @@ unfoldable pub askOf : List ℕ → Ask
 askOf row = record {
   arrival = ofBits binary64 (getD row 0 0);
   duration = ofBits binary64 (getD row 1 0);
-  priority =
-      getD row 2 0 % 4294967296;
+  priority = getD row 2 0 % 4294967296;
   count = getD row 3 0 % 256;
   memory = ofBits binary64 (getD row 4 0);
   kind = getD row 5 0 % 65536;
-  site =
-      getD row 6 0 % 256;
+  site = getD row 6 0 % 256;
   tenant = getD row 7 0 % 256;
   gang = flagOf (getD row 8 0);
   nodes = getD row 9 0 % 256;
-  network =
-      flagOf (getD row 10 0);
+  network = flagOf (getD row 10 0);
   timeout = ofBits binary64 (getD row 11 0);
   profile = getD row 12 0 % 256;
   slices = getD row 13 0 % 256;
@@ -71,16 +68,14 @@ pub ask-read : (row : List ℕ) {arrival duration memory timeout : Float} {prior
       priority = priority;
       count = count;
       memory = memory;
-      kind =
-          kind;
+      kind = kind;
       site = site;
       tenant = tenant;
       gang = flagOf (getD row 8 0);
       nodes = nodes;
       network = flagOf (getD row 10 0);
       timeout = timeout;
-      profile =
-          profile;
+      profile = profile;
       slices = slices;
     } ≡ askOf row
 unfolding askOf
@@ -92,12 +87,10 @@ jobOf row = record {
   ask = askOf row;
   state = stateOf (getD row 14 0);
   since = ofBits binary64 (getD row 15 0);
-  start =
-      ofBits binary64 (getD row 16 0);
+  start = ofBits binary64 (getD row 16 0);
   remaining = ofBits binary64 (getD row 17 0);
   waited = ofBits binary64 (getD row 18 0);
-  evictions =
-      getD row 19 0 % 4294967296;
+  evictions = getD row 19 0 % 4294967296;
   run = getD row 20 0 % 4294967296;
   timeouts = getD row 21 0 % 4294967296;
 }

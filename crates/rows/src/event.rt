@@ -64,20 +64,6 @@ pub fn entry_of(e: Event) -> [u64; ENTRY]
     ]
 }
 
-// How many entries a lent table has is known of the slice that it is lent as. So the work is done on slices.
-fn count(entries: &[[u64; ENTRY]]) -> usize
-    ensures { λ r. ⌜ r ≡ length (now (entries .entry)) ⌝ }
-{
-    entries.len()
-}
-
-// A caller learns from it that a lent table is whole.
-pub fn event_places(room: &[[u64; ENTRY]; EVENTS]) -> usize
-    ensures { λ r. ⌜ (r ≡ 1152) × (length (eventsOf (now (room .entry))) ≡ 1152) ⌝ }
-{
-    count(room)
-}
-
 fn event_in(entries: &[[u64; ENTRY]], i: usize) -> Event
     ensures { λ r. ⌜ r ≡ getD (eventsOf (now (entries .entry))) i emptyEvent ⌝ }
 {

@@ -7,7 +7,7 @@ use native.Mathlib.Numerals.{add-one}
 use lib.Dec.{ltb}
 use lib.ListN.{length, take, set}
 use lib.Seq.{take-suc-set}
-use borrow.Author.Tests.{lt-ltb, le-ltb, ltb-true}
+use borrow.Author.Tests.{lt-ltb, ltb-true}
 use Rattle.laws.specs.Choice.{pick}
 use Rattle.laws.specs.Tests.{split}
 
@@ -26,9 +26,6 @@ plus-one x h = rw (lt-ltb x 65535 h)
 
 pub onward-room : (n size : ℕ) → n < size → onward n size ≡ n + 1
 onward-room n size h = rw (lt-ltb n size h)
-
-pub onward-full : (n size : ℕ) → size ≤ n → onward n size ≡ n
-onward-full n size h = rw (le-ltb n size h)
 
 -- a count that fits the table still does
 pub onward-fits : (n size : ℕ) → n ≤ size → onward n size ≤ size

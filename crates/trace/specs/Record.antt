@@ -84,15 +84,13 @@ jobRead s =
       arrival = floatOf arrival;
       duration = floatOf duration;
       priority = priorityOf (priority .value);
-      count =
-          count .value;
+      count = count .value;
       memory = floatOf memory;
       kind = kind .value;
       site = site .value;
       tenant = tenant .value;
       gang = eqb (gang .value) 1;
-      nodes =
-          nodes .value;
+      nodes = nodes .value;
       network = eqb (network .value) 1;
       timeout = floatOf timeout;
       profile = profile .value;
@@ -111,8 +109,7 @@ optionsRead s =
       seconds = floatOf seconds;
       penalty = floatOf penalty;
       multiplier = floatOf multiplier;
-      best =
-          eqb (best .value) 1;
+      best = eqb (best .value) 1;
       aware = eqb (aware .value) 1;
     }))
 
