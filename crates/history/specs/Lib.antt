@@ -11,6 +11,7 @@ pub mod Owed
 pub mod PassOwed
 pub mod PassCame
 pub mod Decided
+pub mod SumLaws
 pub mod Sums
 pub mod Prefixes
 pub mod PrefixesLaws
@@ -30,3 +31,4 @@ pub mod OwnersSettles
 pub mod QueueLined
 pub mod QueuePass
 pub mod CutLaws
+pub mod TimesLaws

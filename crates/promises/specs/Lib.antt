@@ -32,3 +32,5 @@ pub mod OneHistory
 pub mod RunWords
 pub mod LentWords
 pub mod CutStays
+pub mod TimesSteps
+pub mod ClockRises
