@@ -11,7 +11,7 @@ use model::sizes::{GPUS, NODES};
 use small::{both, lesser};
 
 // Enough: nothing stands against it.
-#[derive(Drop)]
+#[derive(Clone, Copy)]
 pub enum Why {
     Enough,
     NoCount,

@@ -11,7 +11,7 @@ use small::lesser;
 pub const KEYS: usize = 257;
 
 // The numbers stand at the front of ids, count of them.
-#[derive(Drop)]
+#[derive(Clone, Copy)]
 pub struct Chosen {
     pub ids: [u16; GPUS],
     pub count: usize,

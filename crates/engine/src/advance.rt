@@ -15,7 +15,7 @@ use rows::gpu::CARD;
 use rows::job::ROW;
 
 // An event, and the entry that it stands in.
-#[derive(Drop)]
+#[derive(Clone, Copy)]
 pub struct Found {
     pub at: usize,
     pub event: Event,

@@ -7,7 +7,7 @@ ghost use Rattle.fit.specs.First.{took, held, first_fit};
 use eligible::chosen::{Chosen, first_of};
 
 // Which GPUs the job gets, whether there is room for it at all, and whether it is penalised.
-#[derive(Drop)]
+#[derive(Clone, Copy)]
 pub struct Choice {
     pub chosen: Chosen,
     pub enough: bool,

@@ -7,7 +7,7 @@ ghost use Rattle.gpu_planner.specs.Head.{head_words, refused_head};
 use trace::answer::{Answer, number_of, place_of};
 
 // answer 0: planned to its end; 1 to 9: the load was refused, at the place; 12: a step was refused.
-#[derive(Drop)]
+#[derive(Clone, Copy)]
 pub struct Head {
     pub answer: u64,
     pub place: u64,

@@ -12,7 +12,7 @@ use model::sizes::{EVENTS, GPUS, JOBS};
 use model::totals::Totals;
 
 #[repr(C)]
-#[derive(Drop)]
+#[derive(Clone, Copy)]
 pub struct HeldJob {
     pub ask: Ask,
     pub state: u8,
@@ -26,7 +26,7 @@ pub struct HeldJob {
 }
 
 #[repr(C)]
-#[derive(Drop)]
+#[derive(Clone, Copy)]
 pub struct HeldEvent {
     pub time: f64,
     pub number: u64,
@@ -36,7 +36,7 @@ pub struct HeldEvent {
 }
 
 #[repr(C)]
-#[derive(Drop)]
+#[derive(Clone, Copy)]
 pub struct HeldPlan {
     pub setting: Setting,
     pub gpus: [Gpu; GPUS],

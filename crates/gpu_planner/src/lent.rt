@@ -12,7 +12,7 @@ use planner::{Placeable, Taken, can_place, load, step};
 use trace::answer::{number_of, place_of};
 
 // The plan to hand out, and the word that tells how it went.
-#[derive(Drop)]
+#[derive(Clone, Copy)]
 pub struct Handed {
     pub word: u64,
     pub plan: HeldPlan,

@@ -1,5 +1,7 @@
 // The planner as a library that C and Rust link: a whole trace planned into lent words.
 
+#![tactic(auto)]
+
 pub mod head;
 pub mod held;
 pub mod lent;

@@ -1,5 +1,7 @@
 // What an event says is done: an arrival, a completion, a timeout; a stale one does nothing.
 
+#![tactic(auto)]
+
 ghost use Rattle.std.specs.Prelude.{◌≡◌, List, ℕ};
 ghost use Rattle.happen.specs.Happen.{whole_plan, whole_moment, joins_rest};
 ghost use Rattle.happen.specs.Happen.{stale, said, arrives, completes, times_out, of_run, of_timeout, arrived, completed, timed_out};
@@ -26,7 +28,7 @@ use starts::begin::amount;
 use starts::timeout::queue_timeout;
 
 // plan is the plan so far and log the decisions; ok: every number stored so far is permitted; goes: a pass follows.
-#[derive(Drop)]
+#[derive(Clone, Copy)]
 pub struct Moment {
     pub plan: Plan,
     pub log: Log,
@@ -35,7 +37,7 @@ pub struct Moment {
 }
 
 // A plan without its tables of GPUs, jobs and events, which are lent.
-#[derive(Drop)]
+#[derive(Clone, Copy)]
 pub struct Rest {
     pub setting: Setting,
     pub queue: [u16; JOBS],
@@ -46,7 +48,7 @@ pub struct Rest {
 }
 
 // A moment without them.
-#[derive(Drop)]
+#[derive(Clone, Copy)]
 pub struct Point {
     pub rest: Rest,
     pub log: Log,

@@ -1,5 +1,7 @@
 // The small changes of one job: it waits, fails, ends, is evicted, is placed, starts; and the numbers that they store.
 
+#![tactic(auto)]
+
 ghost use Rattle.std.specs.Prelude.{◌≡◌};
 ghost use Rattle.life.specs.Life.{raised, timed, run_seconds, left_after, waits, fails, ends, evicted, placed, delayed, start_at, multiplier_of, completion_at, started};
 

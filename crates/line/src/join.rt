@@ -16,7 +16,7 @@ use rows::job::{ROW, read_job};
 use small::{both, lesser, onward, wide_id};
 
 // queue holds waiting jobs' numbers; victims those of this pass, evicted of them; ok: every number stored so far is permitted.
-#[derive(Drop)]
+#[derive(Clone, Copy)]
 pub struct Line {
     pub queue: [u16; JOBS],
     pub waiting: usize,

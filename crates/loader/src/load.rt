@@ -17,14 +17,14 @@ use trace::answer::{Answer, is_accepted, shift};
 use trace::record::{Record, read_record};
 
 // The answer beside the plan; refused, the plan is the empty one.
-#[derive(Drop)]
+#[derive(Clone, Copy)]
 pub struct Loaded {
     pub answer: Answer,
     pub plan: Plan,
 }
 
 // After one more record: over with an answer, or on at a place of the trace.
-#[derive(Drop)]
+#[derive(Clone, Copy)]
 pub struct Turn {
     pub over: bool,
     pub answer: Answer,
@@ -33,7 +33,7 @@ pub struct Turn {
 }
 
 // The same without the tables of GPUs and jobs, which are lent.
-#[derive(Drop)]
+#[derive(Clone, Copy)]
 pub struct Going {
     pub over: bool,
     pub answer: Answer,

@@ -19,7 +19,7 @@ use rows::list::{put_byte, put_word};
 use trace::record::{Card, Record};
 
 // What is loaded so far; told says whether the trace has given options.
-#[derive(Drop)]
+#[derive(Clone, Copy)]
 pub struct Tables {
     pub setting: Setting,
     pub gpus: [Gpu; GPUS],
@@ -28,7 +28,7 @@ pub struct Tables {
 }
 
 // The same without the tables, which are lent: sites, quotas and mosts of the settings, GPUs and jobs.
-#[derive(Drop)]
+#[derive(Clone, Copy)]
 pub struct Loading {
     pub options: Options,
     pub told: bool,

@@ -1,5 +1,7 @@
 // The decisions of a step, as they are made.
 
+#![tactic(auto)]
+
 pub mod words;
 
 ghost use Rattle.std.specs.Prelude.{◌≡◌, set};
@@ -10,7 +12,7 @@ use small::onward;
 // At most: the event's own, and one for each job.
 pub const DECISIONS: usize = 129;
 
-#[derive(Drop)]
+#[derive(Clone, Copy)]
 pub enum Kind {
     Arrived,
     Failed,
@@ -20,7 +22,7 @@ pub enum Kind {
 }
 
 // time is the bits of a time; other is 0, the GPUs or slices, or the job that an evicted one made way for.
-#[derive(Drop)]
+#[derive(Clone, Copy)]
 pub struct Decision {
     pub time: u64,
     pub kind: Kind,
@@ -29,7 +31,7 @@ pub struct Decision {
 }
 
 // The decisions so far stand at the front of the table, count of them.
-#[derive(Drop)]
+#[derive(Clone, Copy)]
 pub struct Log {
     pub table: [Decision; DECISIONS],
     pub count: usize,

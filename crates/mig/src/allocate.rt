@@ -12,7 +12,7 @@ use rows::gpu::{CARD, read_gpu, write_gpu};
 use small::{both, either, lesser, minus, wide};
 
 // The table after, whether the job has its slices, and whether a GPU was cut for it.
-#[derive(Drop)]
+#[derive(Clone, Copy)]
 pub struct Slices {
     pub gpus: [Gpu; GPUS],
     pub placed: bool,
@@ -20,7 +20,7 @@ pub struct Slices {
 }
 
 // The same without the table of GPUs, which is lent.
-#[derive(Drop)]
+#[derive(Clone, Copy)]
 pub struct Given {
     pub placed: bool,
     pub cut: bool,

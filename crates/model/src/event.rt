@@ -3,7 +3,7 @@
 ghost use Rattle.std.specs.Prelude.{◌≡◌};
 ghost use Rattle.model.specs.Event.{empty_event};
 
-#[derive(Drop)]
+#[derive(Clone, Copy)]
 pub enum EventKind {
     Empty,
     Arrival,
@@ -12,7 +12,7 @@ pub enum EventKind {
 }
 
 // number is the insertion number; generation is the job's run or timeout generation that the event was queued for.
-#[derive(Drop)]
+#[derive(Clone, Copy)]
 pub struct Event {
     pub time: f64,
     pub number: u64,

@@ -7,7 +7,7 @@ use crate::sizes::SLICES;
 
 // An owner is a job's number plus 1, or 0 for nobody; group and profile are stored likewise.
 #[repr(C)]
-#[derive(Drop)]
+#[derive(Clone, Copy)]
 pub struct Gpu {
     pub node: u8,
     pub kind: u8,

@@ -6,7 +6,7 @@ ghost use Rattle.model.specs.Job.{no_ask, new_job, no_job};
 use crate::sizes::JOBS;
 
 // Placed: chosen in the present pass and not yet started; no plan between two steps holds it.
-#[derive(Drop)]
+#[derive(Clone, Copy)]
 pub enum JobState {
     Pending,
     Waiting,
@@ -19,7 +19,7 @@ pub enum JobState {
 // What the trace says of a job, which no step changes. A priority p stands as p + 2^31, so that its order is that of the numbers.
 // kind, site, tenant and profile are the number plus 1, or 0 for none.
 #[repr(C)]
-#[derive(Drop)]
+#[derive(Clone, Copy)]
 pub struct Ask {
     pub arrival: f64,
     pub duration: f64,
@@ -38,7 +38,7 @@ pub struct Ask {
 }
 
 // since: the clock when the job last began to wait; run and timeouts are its two generations.
-#[derive(Drop)]
+#[derive(Clone, Copy)]
 pub struct Job {
     pub ask: Ask,
     pub state: JobState,

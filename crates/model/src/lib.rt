@@ -1,5 +1,7 @@
 // The tables of the plan: sizes, permitted numbers, GPUs, jobs, events, the setting, totals and the plan.
 
+#![tactic(auto)]
+
 pub mod event;
 pub mod gpu;
 pub mod job;

@@ -11,7 +11,7 @@ use crate::sizes::{EVENTS, GPUS, JOBS};
 use crate::totals::{Totals, no_totals};
 
 // queue holds the numbers of the waiting jobs, waiting of them; next is the insertion number that the next event gets.
-#[derive(Drop)]
+#[derive(Clone, Copy)]
 pub struct Plan {
     pub setting: Setting,
     pub gpus: [Gpu; GPUS],

@@ -7,7 +7,7 @@ use crate::sizes::{NODES, PROFILES, TENANTS};
 
 // seconds: what a reconfiguration adds to a start; penalty: what a restart adds; multiplier: what a penalised job's remaining is multiplied by.
 #[repr(C)]
-#[derive(Drop)]
+#[derive(Clone, Copy)]
 pub struct Options {
     pub seconds: f64,
     pub penalty: f64,
@@ -18,7 +18,7 @@ pub struct Options {
 
 // A site, as a quota, is stored plus 1, or 0 for none; a profile's most is 0 where it is not loaded. nodes, gpus and jobs count those loaded.
 #[repr(C)]
-#[derive(Drop)]
+#[derive(Clone, Copy)]
 pub struct Setting {
     pub sites: [u8; NODES],
     pub nodes: u8,

@@ -1,5 +1,7 @@
 // The five running totals, as joins, evictions and starts change them.
 
+#![tactic(auto)]
+
 mod change;
 mod lent;
 

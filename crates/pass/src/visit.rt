@@ -19,7 +19,7 @@ use small::{onward, plus_one, wide_id};
 use starts::begin::{Placing, no_placing};
 
 // placed holds the jobs placed so far, count of them, in the order of placing.
-#[derive(Drop)]
+#[derive(Clone, Copy)]
 pub struct Pass {
     pub gpus: [Gpu; GPUS],
     pub jobs: [Job; JOBS],
@@ -29,7 +29,7 @@ pub struct Pass {
 }
 
 // The same without the tables of GPUs and jobs, which are lent.
-#[derive(Drop)]
+#[derive(Clone, Copy)]
 pub struct Turn {
     pub line: Line,
     pub placed: [Placing; JOBS],

@@ -1,5 +1,7 @@
 // Plans the trace on standard input and prints its decisions; with --batch, trace after trace.
 
+#![tactic(auto)]
+
 mod run;
 
 ghost use Rattle.std.specs.Prelude.{◌≡◌, length};
@@ -13,7 +15,7 @@ use text::put::put_bytes;
 use text::same::is_same;
 
 // After a trace of a batch: the place after the lines collected, and whether to go on.
-#[derive(Drop)]
+#[derive(Clone, Copy)]
 struct Next {
     to: usize,
     more: bool,

@@ -18,7 +18,7 @@ use rows::gpu::{CARD, read_gpus};
 use rows::job::{ROW, read_jobs};
 
 // The answer to a step, and the plan after it beside its tables.
-#[derive(Drop)]
+#[derive(Clone, Copy)]
 pub struct SteppedRest {
     pub answer: Taken,
     pub rest: Rest,

@@ -1,5 +1,7 @@
 // The public face of the planner.
 
+#![tactic(auto)]
+
 pub mod lent;
 
 ghost use Rattle.std.specs.Prelude.{◌≡◌, length};
@@ -22,7 +24,7 @@ use rows::job::{ROW, write_jobs};
 pub const WORDS: usize = 516;
 
 // The answer to the question whether a job is placeable now.
-#[derive(Drop)]
+#[derive(Clone, Copy)]
 pub enum Placeable {
     Yes,
     No,
@@ -30,7 +32,7 @@ pub enum Placeable {
 }
 
 // The answer to a step: how many decisions it made, or why it was refused.
-#[derive(Drop)]
+#[derive(Clone, Copy)]
 pub enum Taken {
     Decisions(usize),
     ShortBuffer,
@@ -39,7 +41,7 @@ pub enum Taken {
 }
 
 // The answer, and the plan after the step or, refused, as it was.
-#[derive(Drop)]
+#[derive(Clone, Copy)]
 pub struct Stepped {
     pub answer: Taken,
     pub plan: Plan,

@@ -18,7 +18,7 @@ use rows::job::{ROW, read_job, write_job};
 use small::{lesser, plus_one, wide_id};
 
 // The victims are the first count of those numbered; count is 0 where no prefix helps, and then the tables are as they were.
-#[derive(Drop)]
+#[derive(Clone, Copy)]
 pub struct Preempted {
     pub gpus: [Gpu; GPUS],
     pub jobs: [Job; JOBS],
@@ -27,7 +27,7 @@ pub struct Preempted {
 }
 
 // The same without the tables, which are lent.
-#[derive(Drop)]
+#[derive(Clone, Copy)]
 pub struct Way {
     pub victims: [u16; JOBS],
     pub count: usize,

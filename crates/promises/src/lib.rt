@@ -1,1 +1,3 @@
 // The theorems; all of them stand in specs/.
+
+#![tactic(auto)]

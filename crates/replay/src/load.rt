@@ -6,7 +6,7 @@ use text::put::{put_answer, put_bytes, put_decimal, put_newline};
 use text::word::byte_at;
 use trace::answer::{number_of, place_of};
 
-#[derive(Drop)]
+#[derive(Clone, Copy)]
 pub struct Told {
     pub number: u64,
     pub place: u64,

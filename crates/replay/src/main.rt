@@ -1,5 +1,7 @@
 // Runs stored cases, given on standard input, and tells each whose answer is not the expected one.
 
+#![tactic(auto)]
+
 mod load;
 mod plan;
 mod stored;
@@ -17,7 +19,7 @@ const ROOM: usize = 524288;
 // One byte over what a trace may have is enough to refuse it by.
 const KEPT: usize = 65537;
 
-#[derive(Drop)]
+#[derive(Clone, Copy)]
 pub struct Ran {
     pub right: bool,
     pub next: usize,

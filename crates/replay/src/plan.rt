@@ -10,7 +10,7 @@ use text::told::{Last, put_decisions, put_last};
 use trace::answer::{number_of, place_of};
 
 // How many bytes of the expected lines were met; wrong: what came next was not what they have there.
-#[derive(Drop)]
+#[derive(Clone, Copy)]
 pub struct Met {
     pub bytes: usize,
     pub wrong: bool,

@@ -7,7 +7,7 @@ use text::put::put_bytes;
 use text::word::first_word;
 
 // A trace taken out of its pieces: so many bytes of the buffer, and the place in the file after it.
-#[derive(Drop)]
+#[derive(Clone, Copy)]
 pub struct Unpacked {
     pub length: usize,
     pub next: usize,

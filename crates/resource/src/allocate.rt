@@ -18,7 +18,7 @@ use rows::gpu::CARD;
 use rows::job::ROW;
 
 // cut: a GPU was cut anew for the job; penalised: its GPUs are not of one group where that was wanted.
-#[derive(Drop)]
+#[derive(Clone, Copy)]
 pub struct Allocation {
     pub gpus: [Gpu; GPUS],
     pub placed: bool,
@@ -27,7 +27,7 @@ pub struct Allocation {
 }
 
 // The same without the table of GPUs, which is lent.
-#[derive(Drop)]
+#[derive(Clone, Copy)]
 pub struct Got {
     pub placed: bool,
     pub cut: bool,

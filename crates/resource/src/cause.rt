@@ -15,7 +15,7 @@ use model::sizes::{GPUS, JOBS};
 use rows::gpu::CARD;
 use rows::job::ROW;
 
-#[derive(Drop)]
+#[derive(Clone, Copy)]
 pub enum Cause {
     NoCause,
     OverQuota,

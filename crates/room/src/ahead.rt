@@ -10,7 +10,7 @@ use model::sizes::EVENTS;
 use rows::event::ENTRY;
 use small::both;
 
-#[derive(Drop)]
+#[derive(Clone, Copy)]
 pub struct Ahead {
     pub events: [Event; EVENTS],
     pub next: u64,
@@ -18,7 +18,7 @@ pub struct Ahead {
 }
 
 // The same without the room, which is lent.
-#[derive(Drop)]
+#[derive(Clone, Copy)]
 pub struct Next {
     pub next: u64,
     pub ok: bool,

@@ -1,5 +1,7 @@
 // The event room: 1,152 entries; the least event, taking one and adding one.
 
+#![tactic(auto)]
+
 pub mod ahead;
 
 ghost use Rattle.std.specs.Prelude.{◌≡◌};

@@ -1,5 +1,7 @@
 // Shows each trace of its standard input step by step, as compare/FORMAT.md says: tables, states, decisions, how it ended.
 
+#![tactic(auto)]
+
 mod digest;
 mod events;
 mod fields;

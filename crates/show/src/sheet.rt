@@ -6,7 +6,7 @@ use text::put::{put_bytes, put_hex, put_newline};
 use text::told::{Last, put_last};
 
 // What is asked for: event lines, a digest in place of the text. known: each word of the command was.
-#[derive(Drop)]
+#[derive(Clone, Copy)]
 pub struct Asked {
     pub events: bool,
     pub digest: bool,
@@ -14,7 +14,7 @@ pub struct Asked {
 }
 
 // lost: a text could not be written, and nothing more is to be.
-#[derive(Drop)]
+#[derive(Clone, Copy)]
 pub struct Sheet {
     pub digest: bool,
     pub sum: u64,

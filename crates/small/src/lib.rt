@@ -1,5 +1,7 @@
 // Small rules on tests and numbers.
 
+#![tactic(auto)]
+
 ghost use Rattle.std.specs.Prelude.{◌≡◌, ◌&&◌, ◌||◌, ◌-◌, min};
 ghost use Rattle.laws.specs.Sums.{bit};
 ghost use Rattle.small.specs.Small.{plus_one, onward};

@@ -19,7 +19,7 @@ use rows::job::{ROW, read_job, write_job};
 use small::{both, lesser, wide_id};
 
 // A job placed in the pass: whether a GPU was cut for it, and whether it is penalised.
-#[derive(Drop)]
+#[derive(Clone, Copy)]
 pub struct Placing {
     pub job: u16,
     pub cut: bool,
@@ -27,7 +27,7 @@ pub struct Placing {
 }
 
 // What starts change.
-#[derive(Drop)]
+#[derive(Clone, Copy)]
 pub struct Begun {
     pub jobs: [Job; JOBS],
     pub ahead: Ahead,
@@ -36,7 +36,7 @@ pub struct Begun {
 }
 
 // The same without the tables of jobs and events, which are lent.
-#[derive(Drop)]
+#[derive(Clone, Copy)]
 pub struct Beginning {
     pub ahead: Next,
     pub totals: Totals,

@@ -10,7 +10,7 @@ use libc::STDIN_FILENO;
 const BARE: u64 = 0x8000_0000;
 
 // over: the input ended, before a frame or inside one. Else the frame's first bytes, length of them, stand in the buffer.
-#[derive(Drop)]
+#[derive(Clone, Copy)]
 pub struct Frame {
     pub over: bool,
     pub bare: bool,

@@ -3,7 +3,7 @@
 use libc::STDOUT_FILENO;
 
 // The place after what is collected. lost: it could not be written, and nothing more is to be.
-#[derive(Drop)]
+#[derive(Clone, Copy)]
 pub struct Page {
     pub to: usize,
     pub lost: bool,

@@ -5,7 +5,7 @@ ghost use Rattle.io.specs.Counts.{IsPrefixLen};
 use crate::put::{put_answer, put_bytes, put_decimal, put_hex, put_newline, put_space};
 
 // How a plan ends: number 0, and place is how many steps it took; or a refusal, and of a load the place that shows it.
-#[derive(Drop)]
+#[derive(Clone, Copy)]
 pub struct Last {
     pub number: u64,
     pub place: u64,

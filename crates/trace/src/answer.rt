@@ -4,7 +4,7 @@ ghost use Rattle.std.specs.Prelude.{◌≡◌, ◌+◌, ◌<◌, ◌^◌};
 ghost use Rattle.trace.specs.Answer.{accepted, number_of, place_of, shifted};
 
 // Each refusal of a load holds its byte place.
-#[derive(Drop)]
+#[derive(Clone, Copy)]
 pub enum Answer {
     Accepted,
     EndsEarly(usize),

@@ -8,7 +8,7 @@ use crate::answer::Answer;
 use crate::number::{Number, read_number};
 
 // The field's number and where it ends; refused, both are 0.
-#[derive(Drop)]
+#[derive(Clone, Copy)]
 pub struct Field {
     pub answer: Answer,
     pub value: u64,
@@ -16,7 +16,7 @@ pub struct Field {
 }
 
 // The same in numbers alone, which cost less to hand on than an answer: refusal is its number, or 0, and end is the place of a refusal.
-#[derive(Drop)]
+#[derive(Clone, Copy)]
 pub struct Plain {
     pub refusal: u64,
     pub value: u64,

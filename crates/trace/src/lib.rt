@@ -1,5 +1,7 @@
 // The trace's bytes: numbers, ranged fields, and one reader a record.
 
+#![tactic(auto)]
+
 pub mod answer;
 pub mod field;
 pub mod number;

@@ -18,7 +18,7 @@ use model::setting::Options;
 use model::sizes::PERMITTED;
 
 // What a GPU record says; the GPU stands on the latest node.
-#[derive(Drop)]
+#[derive(Clone, Copy)]
 pub struct Card {
     pub kind: u8,
     pub memory: f64,
@@ -26,7 +26,7 @@ pub struct Card {
     pub mig: bool,
 }
 
-#[derive(Drop)]
+#[derive(Clone, Copy)]
 pub enum Record {
     End,
     Node(u8),
@@ -38,7 +38,7 @@ pub enum Record {
 }
 
 // A record and the bytes that it takes, where the answer is accepted.
-#[derive(Drop)]
+#[derive(Clone, Copy)]
 pub struct Read {
     pub answer: Answer,
     pub found: Record,
