@@ -12,10 +12,10 @@ use Rattle.model.specs.Job.{no_job}
 use Rattle.model.specs.Number.{permitted, bits_of}
 use Rattle.model.specs.declared.job.Job.{Job}
 use Rattle.model.specs.declared.totals.Totals.{Totals}
-use Rattle.log.specs.Log.{told, decisions, told_behind}
-use Rattle.log.specs.declared.Decision.{Decision}
-use Rattle.log.specs.declared.Kind.TheVariants.{Evicted}
-use Rattle.log.specs.declared.Log.{Log}
+use Rattle.decision_log.specs.Log.{told, decisions, told_behind}
+use Rattle.decision_log.specs.declared.Decision.{Decision}
+use Rattle.decision_log.specs.declared.Kind.TheVariants.{Evicted}
+use Rattle.decision_log.specs.declared.Log.{Log}
 use Rattle.line.specs.Line.{new_line, joined, joined_all}
 use Rattle.line.specs.declared.join.Line.{Line}
 

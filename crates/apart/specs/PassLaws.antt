@@ -7,7 +7,7 @@ use Rattle.laws.specs.Lists.{All, Distinct}
 use Rattle.model.specs.declared.gpu.Gpu.{Gpu}
 use Rattle.model.specs.declared.job.Job.{Job}
 use Rattle.model.specs.declared.setting.Setting.{Setting}
-use Rattle.log.specs.Log.{decisions}
+use Rattle.decision_log.specs.Log.{decisions}
 use Rattle.apart.specs.LineLaws.{Sized, victims_of}
 use Rattle.line.specs.declared.join.Line.{Line}
 use Rattle.starts.specs.Begin.{no_placing}

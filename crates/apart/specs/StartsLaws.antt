@@ -19,9 +19,9 @@ use Rattle.model.specs.declared.job.Job.{Job}
 use Rattle.model.specs.declared.job.JobState.TheVariants.{Running}
 use Rattle.model.specs.declared.setting.Options.{Options}
 use Rattle.small.specs.Small.{onward, onward_room}
-use Rattle.log.specs.Log.{no_decision, told, decisions, most, told_behind}
-use Rattle.log.specs.declared.Decision.{Decision}
-use Rattle.log.specs.declared.Kind.TheVariants.{Started}
+use Rattle.decision_log.specs.Log.{no_decision, told, decisions, most, told_behind}
+use Rattle.decision_log.specs.declared.Decision.{Decision}
+use Rattle.decision_log.specs.declared.Kind.TheVariants.{Started}
 use Rattle.life.specs.Life as Life
 use Rattle.life.specs.Life.{timed}
 use Rattle.noted.specs.Noted as Noted

@@ -7,9 +7,9 @@ use Rattle.laws.specs.Lists.{All, Distinct, all_append, all_map, all_every}
 use Rattle.model.specs.Number.{bits_of}
 use Rattle.model.specs.declared.job.JobState.TheVariants.{Running}
 use Rattle.model.specs.declared.setting.Setting.{Setting}
-use Rattle.log.specs.Log.{decisions}
-use Rattle.log.specs.declared.Decision.{Decision}
-use Rattle.log.specs.declared.Kind.TheVariants.{Evicted}
+use Rattle.decision_log.specs.Log.{decisions}
+use Rattle.decision_log.specs.declared.Decision.{Decision}
+use Rattle.decision_log.specs.declared.Kind.TheVariants.{Evicted}
 use Rattle.eligible.specs.More.{map_append}
 use Rattle.apart.specs.LineLaws.{victims_of, eviction_told, joins_count, joins_decisions}
 use Rattle.preemptive.specs.Prefix.{evicted_all}

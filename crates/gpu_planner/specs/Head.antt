@@ -1,7 +1,7 @@
 -- The four words in front of the decisions.
 use Rattle.std.specs.Prelude.{◌≡◌, refl, List, [], ◌∷◌, ℕ, ◌≤◌, length, set}
 use Rattle.std.proofs.Common.{arith}
-use Rattle.log.specs.Words.{over}
+use Rattle.decision_log.specs.Words.{over}
 use Rattle.trace.specs.Answer.{number_of, place_of}
 use Rattle.trace.specs.declared.answer.Answer.{Answer}
 use Rattle.gpu_planner.specs.declared.head.Head.{Head}

@@ -4,7 +4,7 @@ use Rattle.std.proofs.Math.Bool.{true, false}
 use Rattle.std.proofs.Math.Dec.{ltb}
 use borrow.Author.Tests.{lt-ltb, le-ltb}
 use Rattle.laws.specs.Choice.{pick}
-use Rattle.log.specs.Words.{over}
+use Rattle.decision_log.specs.Words.{over}
 use Rattle.trace.specs.Answer.{accepted}
 use Rattle.loader.specs.Load.{load}
 use Rattle.loader.specs.declared.load.Loaded.{Loaded}

@@ -1,7 +1,7 @@
 -- The run of a loaded plan: steps until one is refused, each with its decisions behind those before.
 use Rattle.std.specs.Prelude.{List, ◌++◌, ℕ, zero, suc, ◌+◌, ◌-◌, ◌*◌, min, length, take, drop}
 use Rattle.model.specs.declared.plan.Plan.{Plan}
-use Rattle.log.specs.Log.{most}
+use Rattle.decision_log.specs.Log.{most}
 use Rattle.planner.specs.Step.{stepped, words_after}
 use Rattle.planner.specs.declared.Taken.{Taken}
 use Rattle.planner.specs.declared.Taken.TheVariants.{Decisions, ShortBuffer, NoEvent, NotPermitted}

@@ -2,7 +2,7 @@
 use Rattle.std.specs.Prelude.{◌≡◌, refl, true, List, [], ◌++◌, ℕ, suc, ◌+◌, ◌-◌, ◌<◌, ◌≤◌, min, length, take, drop}
 use Rattle.std.proofs.Common.{sym, ap, ◌∙◌, append-nil, arith, length-drop, drop_of_length-le, take_all}
 use Rattle.model.specs.declared.plan.Plan.{Plan}
-use Rattle.log.specs.Log.{most}
+use Rattle.decision_log.specs.Log.{most}
 use Rattle.room.specs.Top.{free_from, top_after}
 use Rattle.planner.specs.Step.{words_needed, number_of, stepped, words_after}
 use Rattle.planner.specs.StepLaws.{accepted_for}

@@ -1,7 +1,7 @@
 // The four words in front of the decisions of a run.
 
 ghost use Rattle.std.specs.Prelude.{◌≡◌, ◌≤◌, length};
-ghost use Rattle.log.specs.Words.{over};
+ghost use Rattle.decision_log.specs.Words.{over};
 ghost use Rattle.gpu_planner.specs.Head.{head_words, refused_head};
 
 use trace::answer::{Answer, number_of, place_of};

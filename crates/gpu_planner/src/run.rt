@@ -9,7 +9,7 @@ ghost use Rattle.gpu_planner.specs.Run.{run_to, turns};
 
 use crate::head::Head;
 use happen::Rest;
-use log::DECISIONS;
+use decision_log::DECISIONS;
 use model::sizes::{EVENTS, GPUS, JOBS};
 use planner::Taken;
 use planner::lent::step_lent;

@@ -9,9 +9,9 @@ use Rattle.model.specs.Number.{permitted, bits_of}
 use Rattle.model.specs.declared.event.Event.{Event}
 use Rattle.model.specs.declared.job.Job.{Job}
 use Rattle.model.specs.declared.plan.Plan.{Plan}
-use Rattle.log.specs.Log.{empty_log, told}
-use Rattle.log.specs.declared.Kind.{Kind}
-use Rattle.log.specs.declared.Kind.TheVariants.{Arrived, Failed, Completed}
+use Rattle.decision_log.specs.Log.{empty_log, told}
+use Rattle.decision_log.specs.declared.Kind.{Kind}
+use Rattle.decision_log.specs.declared.Kind.TheVariants.{Arrived, Failed, Completed}
 use Rattle.mig.specs.Owner.{freed}
 use Rattle.cluster.specs.Usage.{running}
 use Rattle.life.specs.Life as Life

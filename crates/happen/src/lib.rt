@@ -10,7 +10,7 @@ use cluster::gpus::free_all;
 use cluster::usage::is_running;
 use life::{end, fail, wait};
 use line::keep::{is_waiting, keep_waiting};
-use log::{Kind, Log, empty_log, first_log};
+use decision_log::{Kind, Log, empty_log, first_log};
 use model::event::Event;
 use model::job::Job;
 use model::number::{bits_of, is_permitted};

@@ -9,8 +9,8 @@ use Rattle.model.specs.declared.job.Job.{Job}
 use Rattle.model.specs.declared.job.JobState.{JobState}
 use Rattle.model.specs.declared.job.JobState.TheVariants.{Pending, Waiting, Placed, Running, Failed}
 use Rattle.model.specs.declared.setting.Setting.{Setting}
-use Rattle.log.specs.declared.Kind.TheVariants as Kinds
-use Rattle.log.specs.declared.Decision.{Decision}
+use Rattle.decision_log.specs.declared.Kind.TheVariants as Kinds
+use Rattle.decision_log.specs.declared.Decision.{Decision}
 use Rattle.life.specs.Life as Life
 use Rattle.cluster.specs.Usage.{runs, placed, holding, charge_of, charge_to, usage}
 use Rattle.cluster.specs.UsageLaws.{charge_none, charge_other, charge_own, usage_set, usage_past}

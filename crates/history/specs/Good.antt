@@ -16,7 +16,7 @@ use Rattle.model.specs.declared.job.Job.{Job}
 use Rattle.model.specs.declared.job.JobState.{JobState}
 use Rattle.model.specs.declared.job.JobState.TheVariants.{Pending, Waiting, Placed, Running, Finished, Failed}
 use Rattle.model.specs.declared.setting.Setting.{Setting}
-use Rattle.log.specs.declared.Decision.{Decision}
+use Rattle.decision_log.specs.declared.Decision.{Decision}
 use Rattle.cluster.specs.Usage.{runs, running, holding, charge_of, charge_to, usage}
 use Rattle.resource.specs.Quota.{kept_quota}
 use Rattle.history.specs.Told.{is_evicted, is_started, evictions_of, starts_of, says_runs, runs_after, sum_to, held_one, held_after}

@@ -9,9 +9,9 @@ use Rattle.model.specs.declared.job.Job.{Job}
 use Rattle.model.specs.declared.job.JobState.TheVariants.{Running}
 use Rattle.model.specs.declared.setting.Options.{Options}
 use Rattle.model.specs.declared.setting.Setting.{Setting}
-use Rattle.log.specs.Log.{decisions, most}
-use Rattle.log.specs.declared.Decision.{Decision}
-use Rattle.log.specs.declared.Kind.TheVariants.{Evicted, Started}
+use Rattle.decision_log.specs.Log.{decisions, most}
+use Rattle.decision_log.specs.declared.Decision.{Decision}
+use Rattle.decision_log.specs.declared.Kind.TheVariants.{Evicted, Started}
 use Rattle.apart.specs.LineLaws.{Sized}
 use Rattle.line.specs.declared.join.Line.{Line}
 use Rattle.starts.specs.Begin as Begin

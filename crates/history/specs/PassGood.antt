@@ -13,8 +13,8 @@ use Rattle.model.specs.Number.{bits_of}
 use Rattle.model.specs.declared.job.Ask.{Ask}
 use Rattle.model.specs.declared.job.Job.{Job}
 use Rattle.model.specs.declared.setting.Setting.{Setting}
-use Rattle.log.specs.Log.{decisions}
-use Rattle.log.specs.declared.Decision.{Decision}
+use Rattle.decision_log.specs.Log.{decisions}
+use Rattle.decision_log.specs.declared.Decision.{Decision}
 use Rattle.life.specs.Life as Life
 use Rattle.resource.specs.Cause.{placeable}
 use Rattle.resource.specs.AllocateLaws.{placed_placeable, placeable_quota}

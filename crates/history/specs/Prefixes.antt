@@ -6,8 +6,8 @@ use Rattle.laws.specs.Sort.{only}
 use Rattle.model.specs.Sizes as Sizes
 use Rattle.model.specs.declared.job.JobState.TheVariants.{Placed}
 use Rattle.model.specs.declared.setting.Setting.{Setting}
-use Rattle.log.specs.Log.{decisions}
-use Rattle.log.specs.declared.Decision.{Decision}
+use Rattle.decision_log.specs.Log.{decisions}
+use Rattle.decision_log.specs.declared.Decision.{Decision}
 use Rattle.resource.specs.Cause.{placeable}
 use Rattle.preemptive.specs.Candidate.{candidates}
 use Rattle.preemptive.specs.Prefix.{opens, shortest}

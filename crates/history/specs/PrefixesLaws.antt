@@ -18,9 +18,9 @@ use Rattle.model.specs.declared.job.JobState.TheVariants.{Placed, Running}
 use Rattle.model.specs.declared.setting.Options.{Options}
 use Rattle.model.specs.declared.setting.Setting.{Setting}
 use Rattle.model.specs.declared.totals.Totals.{Totals}
-use Rattle.log.specs.Log.{decisions}
-use Rattle.log.specs.declared.Decision.{Decision}
-use Rattle.log.specs.declared.Log.{Log}
+use Rattle.decision_log.specs.Log.{decisions}
+use Rattle.decision_log.specs.declared.Decision.{Decision}
+use Rattle.decision_log.specs.declared.Log.{Log}
 use Rattle.life.specs.Life as Life
 use Rattle.cluster.specs.Usage as Usage
 use Rattle.preemptive.specs.Prefix.{made, preempted, evicted_all}

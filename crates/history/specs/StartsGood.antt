@@ -9,8 +9,8 @@ use Rattle.model.specs.declared.job.Job.{Job}
 use Rattle.model.specs.declared.job.JobState.TheVariants.{Placed}
 use Rattle.model.specs.declared.setting.Options.{Options}
 use Rattle.model.specs.declared.setting.Setting.{Setting}
-use Rattle.log.specs.Log.{decisions, most}
-use Rattle.log.specs.declared.Decision.{Decision}
+use Rattle.decision_log.specs.Log.{decisions, most}
+use Rattle.decision_log.specs.declared.Decision.{Decision}
 use Rattle.life.specs.Life as Life
 use Rattle.starts.specs.Begin as Begin
 use Rattle.starts.specs.Begin.{begun_all, amount}

@@ -4,9 +4,9 @@ use Rattle.laws.specs.Choice.{pick}
 use Rattle.laws.specs.Sums.{sumOver, bit}
 use Rattle.model.specs.Job.{no_job}
 use Rattle.model.specs.declared.job.Job.{Job}
-use Rattle.log.specs.declared.Kind.{Kind}
-use Rattle.log.specs.declared.Kind.TheVariants.{Arrived, Failed, Completed, Evicted, Started}
-use Rattle.log.specs.declared.Decision.{Decision}
+use Rattle.decision_log.specs.declared.Kind.{Kind}
+use Rattle.decision_log.specs.declared.Kind.TheVariants.{Arrived, Failed, Completed, Evicted, Started}
+use Rattle.decision_log.specs.declared.Decision.{Decision}
 
 abbrev pub is_evicted : Kind → Bool
 is_evicted Arrived = false

@@ -3,8 +3,8 @@ use Rattle.std.specs.Prelude.{◌≡◌, refl, Bool, false, ◌&&◌, List, [], 
 use Rattle.std.proofs.Common.{◌∙◌, arith, take-suc, eq-eqb, ne_eqb}
 use Rattle.laws.specs.Tests.{split, and_right}
 use Rattle.laws.specs.Sums.{sumOver, bit, sum_snoc}
-use Rattle.log.specs.declared.Kind.{Kind}
-use Rattle.log.specs.declared.Decision.{Decision}
+use Rattle.decision_log.specs.declared.Kind.{Kind}
+use Rattle.decision_log.specs.declared.Decision.{Decision}
 use Rattle.history.specs.Told.{told_of, says_runs, after_one, runs_from, runs_after, sum_to}
 
 -- ---- counts

@@ -7,9 +7,9 @@ use Rattle.model.specs.Job.{no_job}
 use Rattle.model.specs.Number.{permitted, bits_of}
 use Rattle.model.specs.declared.job.Job.{Job}
 use Rattle.model.specs.declared.totals.Totals.{Totals}
-use Rattle.log.specs.Log.{told}
-use Rattle.log.specs.declared.Kind.TheVariants.{Evicted}
-use Rattle.log.specs.declared.Log.{Log}
+use Rattle.decision_log.specs.Log.{told}
+use Rattle.decision_log.specs.declared.Kind.TheVariants.{Evicted}
+use Rattle.decision_log.specs.declared.Log.{Log}
 use Rattle.noted.specs.Noted as Noted
 use Rattle.line.specs.declared.join.Line.{Line}
 

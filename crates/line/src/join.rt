@@ -6,7 +6,7 @@ ghost use Rattle.laws.specs.Search.{has};
 ghost use Rattle.line.specs.Line.{new_line, joined, joined_all};
 
 use eligible::chosen::no_ids;
-use log::{Kind, Log, tell};
+use decision_log::{Kind, Log, tell};
 use model::number::{bits_of, is_permitted};
 use model::plan::put_queue;
 use model::sizes::JOBS;

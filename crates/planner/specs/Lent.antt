@@ -7,8 +7,8 @@ use borrow.Author.Tests.{lt-ltb, le-ltb}
 use Rattle.laws.specs.Choice.{pick}
 use Rattle.laws.specs.Tests.{never_both}
 use Rattle.model.specs.declared.plan.Plan.{Plan}
-use Rattle.log.specs.Log.{words, decisions}
-use Rattle.log.specs.Words.{over}
+use Rattle.decision_log.specs.Log.{words, decisions}
+use Rattle.decision_log.specs.Words.{over}
 use Rattle.rows.specs.Gpu.{gpus_of}
 use Rattle.rows.specs.Job.{jobs_of}
 use Rattle.rows.specs.Event.{events_of}

@@ -5,8 +5,8 @@ use Rattle.std.proofs.Math.Dec.{ltb}
 use borrow.Author.Tests.{lt-ltb, le-ltb}
 use Rattle.laws.specs.Choice.{pick}
 use Rattle.model.specs.declared.plan.Plan.{Plan}
-use Rattle.log.specs.Log.{words, decisions}
-use Rattle.log.specs.Words.{over}
+use Rattle.decision_log.specs.Log.{words, decisions}
+use Rattle.decision_log.specs.Words.{over}
 use Rattle.engine.specs.Advance.{has_event, advanced}
 use Rattle.happen.specs.declared.Moment.{Moment}
 use Rattle.planner.specs.declared.Taken.{Taken}

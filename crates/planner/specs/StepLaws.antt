@@ -4,9 +4,9 @@ use Rattle.std.proofs.Common.{◌∙◌, arith, length-take, drop-drop, ltb-true
 use Rattle.std.proofs.Math.Seq.{take-append_seam, drop-append-add}
 use Rattle.laws.specs.Tests.{split, never_both}
 use Rattle.model.specs.declared.plan.Plan.{Plan}
-use Rattle.log.specs.Log.{words, decisions}
-use Rattle.log.specs.Words.{over}
-use Rattle.log.specs.WordsLaws.{words_length}
+use Rattle.decision_log.specs.Log.{words, decisions}
+use Rattle.decision_log.specs.Words.{over}
+use Rattle.decision_log.specs.WordsLaws.{words_length}
 use Rattle.engine.specs.Advance.{has_event, advanced}
 use Rattle.planner.specs.Step.{words_needed, number_of, stepped, words_after, Done, done_short, done_none, done_barred, done_taken}
 use Rattle.planner.specs.declared.Taken.TheVariants.{Decisions, ShortBuffer, NoEvent, NotPermitted}

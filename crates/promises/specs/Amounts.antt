@@ -11,10 +11,10 @@ use Rattle.model.specs.declared.event.EventKind.TheVariants.{Empty, Arrival, Com
 use Rattle.model.specs.declared.job.Job.{Job}
 use Rattle.model.specs.declared.job.JobState.TheVariants.{Running}
 use Rattle.model.specs.declared.plan.Plan.{Plan}
-use Rattle.log.specs.Log.{decisions}
-use Rattle.log.specs.declared.Decision.{Decision}
-use Rattle.log.specs.declared.Kind.{Kind}
-use Rattle.log.specs.declared.Kind.TheVariants as Kinds
+use Rattle.decision_log.specs.Log.{decisions}
+use Rattle.decision_log.specs.declared.Decision.{Decision}
+use Rattle.decision_log.specs.declared.Kind.{Kind}
+use Rattle.decision_log.specs.declared.Kind.TheVariants as Kinds
 use Rattle.line.specs.Line.{new_line}
 use Rattle.apart.specs.LineLaws.{new_sized}
 use Rattle.apart.specs.Standing.{Standing, few}

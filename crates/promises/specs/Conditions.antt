@@ -3,8 +3,8 @@ use Rattle.std.specs.Prelude.{◌≡◌, refl, ◌⊎◌, true, List, [], ◌∷
 use Rattle.std.proofs.Common.{ap, ◌∙◌, arith}
 use Rattle.laws.specs.Lists.{All, all_middle}
 use Rattle.model.specs.declared.plan.Plan.{Plan}
-use Rattle.log.specs.Log.{decisions}
-use Rattle.log.specs.declared.Decision.{Decision}
+use Rattle.decision_log.specs.Log.{decisions}
+use Rattle.decision_log.specs.declared.Decision.{Decision}
 use Rattle.trace.specs.declared.answer.Answer.TheVariants.{Accepted}
 use Rattle.loader.specs.Load.{load}
 use Rattle.resource.specs.Quota.{kept_quota}

@@ -10,7 +10,7 @@ use Rattle.model.specs.declared.event.EventKind.TheVariants.{Empty, Arrival, Com
 use Rattle.model.specs.declared.job.Job.{Job}
 use Rattle.model.specs.declared.plan.Plan.{Plan}
 use Rattle.model.specs.declared.totals.Totals.{Totals}
-use Rattle.log.specs.declared.Decision.{Decision}
+use Rattle.decision_log.specs.declared.Decision.{Decision}
 use Rattle.loader.specs.Load.{load}
 use Rattle.line.specs.Line.{new_line}
 use Rattle.apart.specs.LineLaws.{new_sized}

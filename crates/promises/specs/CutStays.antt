@@ -8,7 +8,7 @@ use Rattle.model.specs.declared.event.Event.{Event}
 use Rattle.model.specs.declared.event.EventKind.{EventKind}
 use Rattle.model.specs.declared.event.EventKind.TheVariants.{Empty, Arrival, Completion, Timeout}
 use Rattle.model.specs.declared.plan.Plan.{Plan}
-use Rattle.log.specs.declared.Decision.{Decision}
+use Rattle.decision_log.specs.declared.Decision.{Decision}
 use Rattle.mig.specs.Slices.{cut}
 use Rattle.line.specs.Line.{new_line}
 use Rattle.pass.specs.Visit.{new_pass}

@@ -16,7 +16,7 @@ use Rattle.model.specs.declared.job.Job.{Job}
 use Rattle.model.specs.declared.job.JobState.{JobState}
 use Rattle.model.specs.declared.job.JobState.TheVariants.{Waiting, Placed, Running}
 use Rattle.model.specs.declared.plan.Plan.{Plan}
-use Rattle.log.specs.declared.Decision.{Decision}
+use Rattle.decision_log.specs.declared.Decision.{Decision}
 use Rattle.loader.specs.Load.{load}
 use Rattle.life.specs.Life as Life
 use Rattle.cluster.specs.Usage.{runs}

@@ -6,9 +6,9 @@ use Rattle.model.specs.Number.{bits_of}
 use Rattle.model.specs.declared.job.JobState.{JobState}
 use Rattle.model.specs.declared.job.JobState.TheVariants.{Running}
 use Rattle.model.specs.declared.plan.Plan.{Plan}
-use Rattle.log.specs.Log.{decisions}
-use Rattle.log.specs.declared.Decision.{Decision}
-use Rattle.log.specs.declared.Kind.TheVariants as Kinds
+use Rattle.decision_log.specs.Log.{decisions}
+use Rattle.decision_log.specs.declared.Decision.{Decision}
+use Rattle.decision_log.specs.declared.Kind.TheVariants as Kinds
 use Rattle.life.specs.Life as Life
 use Rattle.room.specs.Room.{event_at}
 use Rattle.starts.specs.Begin.{amount}

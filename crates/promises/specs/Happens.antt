@@ -13,10 +13,10 @@ use Rattle.model.specs.declared.job.Job.{Job}
 use Rattle.model.specs.declared.job.JobState.{JobState}
 use Rattle.model.specs.declared.job.JobState.TheVariants.{Pending, Waiting, Placed, Running, Finished, Failed}
 use Rattle.model.specs.declared.plan.Plan.{Plan}
-use Rattle.log.specs.Log.{empty_log, told, decisions, no_decision, told_behind}
-use Rattle.log.specs.declared.Decision.{Decision}
-use Rattle.log.specs.declared.Kind.{Kind}
-use Rattle.log.specs.declared.Kind.TheVariants as Kinds
+use Rattle.decision_log.specs.Log.{empty_log, told, decisions, no_decision, told_behind}
+use Rattle.decision_log.specs.declared.Decision.{Decision}
+use Rattle.decision_log.specs.declared.Kind.{Kind}
+use Rattle.decision_log.specs.declared.Kind.TheVariants as Kinds
 use Rattle.life.specs.Life as Life
 use Rattle.life.specs.Life.{timed}
 use Rattle.mig.specs.Owner.{freed}

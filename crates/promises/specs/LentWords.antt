@@ -6,7 +6,7 @@ use Rattle.model.specs.Sizes as Sizes
 use Rattle.trace.specs.Answer.{number_of, place_of}
 use Rattle.trace.specs.declared.answer.Answer.TheVariants.{TooLong}
 use Rattle.loader.specs.Load.{load}
-use Rattle.log.specs.declared.Decision.{Decision}
+use Rattle.decision_log.specs.declared.Decision.{Decision}
 use Rattle.model.specs.declared.plan.Plan.{Plan}
 use Rattle.planner.specs.Step as Step
 use Rattle.planner.specs.Step.{stepped}

@@ -7,7 +7,7 @@ use Rattle.laws.specs.Search.{has, has_all}
 use Rattle.model.specs.declared.event.EventKind.TheVariants.{Arrival}
 use Rattle.model.specs.declared.job.JobState.TheVariants.{Pending}
 use Rattle.model.specs.declared.plan.Plan.{Plan}
-use Rattle.log.specs.declared.Decision.{Decision}
+use Rattle.decision_log.specs.declared.Decision.{Decision}
 use Rattle.loader.specs.Load.{load}
 use Rattle.line.specs.Keep.{waits_in, waits_at}
 use Rattle.apart.specs.LineLaws.{queue_of, victims_of}

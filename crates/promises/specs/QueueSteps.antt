@@ -18,7 +18,7 @@ use Rattle.model.specs.declared.job.JobState.{JobState}
 use Rattle.model.specs.declared.job.JobState.TheVariants.{Pending, Waiting, Placed, Running, Finished, Failed}
 use Rattle.model.specs.declared.plan.Plan.{Plan}
 use Rattle.model.specs.declared.setting.Setting.{Setting}
-use Rattle.log.specs.declared.Decision.{Decision}
+use Rattle.decision_log.specs.declared.Decision.{Decision}
 use Rattle.life.specs.Life as Life
 use Rattle.cluster.specs.Usage.{runs}
 use Rattle.cluster.specs.Queue.{sorted_queue}

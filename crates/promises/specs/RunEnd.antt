@@ -20,9 +20,9 @@ use Rattle.model.specs.declared.job.JobState.{JobState}
 use Rattle.model.specs.declared.job.JobState.TheVariants.{Waiting, Placed, Running, Finished}
 use Rattle.model.specs.declared.plan.Plan.{Plan}
 use Rattle.model.specs.declared.setting.Setting.{Setting}
-use Rattle.log.specs.Log.{empty_log, told, decisions}
-use Rattle.log.specs.declared.Decision.{Decision}
-use Rattle.log.specs.declared.Kind.TheVariants as Kinds
+use Rattle.decision_log.specs.Log.{empty_log, told, decisions}
+use Rattle.decision_log.specs.declared.Decision.{Decision}
+use Rattle.decision_log.specs.declared.Kind.TheVariants as Kinds
 use Rattle.life.specs.Life as Life
 use Rattle.cluster.specs.Usage.{runs}
 use Rattle.line.specs.Keep.{waits_in}

@@ -15,10 +15,10 @@ use Rattle.model.specs.declared.job.Job.{Job}
 use Rattle.model.specs.declared.job.JobState.TheVariants.{Running}
 use Rattle.model.specs.declared.plan.Plan.{Plan}
 use Rattle.model.specs.declared.setting.Options.{Options}
-use Rattle.log.specs.Log.{empty_log, told, decisions}
-use Rattle.log.specs.declared.Decision.{Decision}
-use Rattle.log.specs.declared.Kind.{Kind}
-use Rattle.log.specs.declared.Kind.TheVariants as Kinds
+use Rattle.decision_log.specs.Log.{empty_log, told, decisions}
+use Rattle.decision_log.specs.declared.Decision.{Decision}
+use Rattle.decision_log.specs.declared.Kind.{Kind}
+use Rattle.decision_log.specs.declared.Kind.TheVariants as Kinds
 use Rattle.life.specs.Life as Life
 use Rattle.room.specs.Room.{event_at, first_free}
 use Rattle.starts.specs.Begin as Begin

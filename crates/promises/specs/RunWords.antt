@@ -4,10 +4,10 @@ use Rattle.std.proofs.Common.{sym, ap, ◌∙◌, inl, inr, ⊎_elim, append_ass
 use Rattle.std.proofs.Math.ListN.{length, length-drop}
 use Rattle.laws.specs.Tests.{split}
 use Rattle.model.specs.declared.plan.Plan.{Plan}
-use Rattle.log.specs.Log.{most, words, decisions}
-use Rattle.log.specs.Words.{over}
-use Rattle.log.specs.WordsLaws.{words_length}
-use Rattle.log.specs.declared.Decision.{Decision}
+use Rattle.decision_log.specs.Log.{most, words, decisions}
+use Rattle.decision_log.specs.Words.{over}
+use Rattle.decision_log.specs.WordsLaws.{words_length}
+use Rattle.decision_log.specs.declared.Decision.{Decision}
 use Rattle.trace.specs.Answer.{accepted, number_of, place_of}
 use Rattle.trace.specs.AnswerLaws.{accepted_is}
 use Rattle.trace.specs.declared.answer.Answer.{Answer}

@@ -14,9 +14,9 @@ use Rattle.model.specs.declared.event.EventKind.TheVariants.{Empty, Arrival, Com
 use Rattle.model.specs.declared.job.Job.{Job}
 use Rattle.model.specs.declared.job.JobState.TheVariants.{Pending, Waiting, Running}
 use Rattle.model.specs.declared.plan.Plan.{Plan}
-use Rattle.log.specs.Log.{empty_log, told, decisions}
-use Rattle.log.specs.declared.Decision.{Decision}
-use Rattle.log.specs.declared.Kind.{Kind}
+use Rattle.decision_log.specs.Log.{empty_log, told, decisions}
+use Rattle.decision_log.specs.declared.Decision.{Decision}
+use Rattle.decision_log.specs.declared.Kind.{Kind}
 use Rattle.life.specs.Life as Life
 use Rattle.cluster.specs.Usage.{runs}
 use Rattle.line.specs.Keep.{waits_in}

@@ -8,8 +8,8 @@ use Rattle.model.specs.declared.event.Event.{Event}
 use Rattle.model.specs.declared.event.EventKind.TheVariants.{Completion}
 use Rattle.model.specs.declared.job.Ask.{Ask}
 use Rattle.model.specs.declared.setting.Options.{Options}
-use Rattle.log.specs.Log.{told}
-use Rattle.log.specs.declared.Kind.TheVariants.{Started}
+use Rattle.decision_log.specs.Log.{told}
+use Rattle.decision_log.specs.declared.Kind.TheVariants.{Started}
 use Rattle.life.specs.Life as Life
 use Rattle.noted.specs.Noted as Noted
 use Rattle.rows.specs.Job.{jobs_of}

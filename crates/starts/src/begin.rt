@@ -5,7 +5,7 @@ ghost use Rattle.model.specs.Number.{permitted};
 ghost use Rattle.starts.specs.Begin.{no_placing, amount, also_next, whole_begun, begun, begun_all};
 
 use life::{completion_at, multiplier_of, start, start_at};
-use log::{Kind, Log, tell};
+use decision_log::{Kind, Log, tell};
 use model::event::EventKind;
 use model::job::{Ask, Job};
 use model::number::{bits_of, is_permitted};

@@ -1,10 +1,10 @@
 -- The decisions of a step: four words each, at most 129.
 use Rattle.std.specs.Prelude.{◌≡◌, List, [], ◌∷◌, ◌++◌, ℕ, ◌<◌, length, take, set, replicate}
 use Rattle.small.specs.Small.{onward, onward_take}
-use Rattle.log.specs.declared.Kind.{Kind}
-use Rattle.log.specs.declared.Kind.TheVariants.{Arrived, Failed, Completed, Evicted, Started}
-use Rattle.log.specs.declared.Decision.{Decision}
-use Rattle.log.specs.declared.Log.{Log}
+use Rattle.decision_log.specs.declared.Kind.{Kind}
+use Rattle.decision_log.specs.declared.Kind.TheVariants.{Arrived, Failed, Completed, Evicted, Started}
+use Rattle.decision_log.specs.declared.Decision.{Decision}
+use Rattle.decision_log.specs.declared.Log.{Log}
 
 -- the event's own, and one for each job
 abbrev pub most : ℕ

@@ -1,8 +1,8 @@
--- `log::empty_log` meets its contract.
+-- `decision_log::empty_log` meets its contract.
 use borrow.Author.Rules.{rules}
-use Rattle.log.specs.Log.{empty_log}
-use Rattle.log.proofs.empty_log.Statement.{statement}
-use Rattle.log.proofs.empty_log.Tie as tie
+use Rattle.decision_log.specs.Log.{empty_log}
+use Rattle.decision_log.proofs.empty_log.Statement.{statement}
+use Rattle.decision_log.proofs.empty_log.Tie as tie
 
 no-decision-requires : tie.Need-no-decision-requires
 no-decision-requires c κs = search rules

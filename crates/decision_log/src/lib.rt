@@ -5,7 +5,7 @@
 pub mod words;
 
 ghost use Rattle.std.specs.Prelude.{◌≡◌, set};
-ghost use Rattle.log.specs.Log.{no_decision, empty_log, kind_word, told};
+ghost use Rattle.decision_log.specs.Log.{no_decision, empty_log, kind_word, told};
 
 use small::onward;
 

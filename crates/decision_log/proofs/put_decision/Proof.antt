@@ -1,9 +1,9 @@
--- `log::put_decision` meets its contract.
+-- `decision_log::put_decision` meets its contract.
 use borrow.Author.Rules.{rules}
 use Rattle.laws.specs.Tables.{past_put}
 use native.Mathlib.Omega.{arith}
-use Rattle.log.proofs.put_decision.Statement.{statement}
-use Rattle.log.proofs.put_decision.Tie as tie
+use Rattle.decision_log.proofs.put_decision.Statement.{statement}
+use Rattle.decision_log.proofs.put_decision.Tie as tie
 
 mul-after : tie.Need-overflow-mul-after
 mul-after c = search rules

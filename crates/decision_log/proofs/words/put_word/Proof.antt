@@ -1,9 +1,9 @@
--- `log::words::put_word` meets its contract.
+-- `decision_log::words::put_word` meets its contract.
 use borrow.Author.Rules.{rules}
 use Rattle.laws.specs.Tables.{past_put}
 use native.Mathlib.Omega.{arith}
-use Rattle.log.proofs.words.put_word.Statement.{statement}
-use Rattle.log.proofs.words.put_word.Tie as tie
+use Rattle.decision_log.proofs.words.put_word.Statement.{statement}
+use Rattle.decision_log.proofs.words.put_word.Tie as tie
 
 mul-out : tie.Need-overflow-mul-out
 mul-out c = search rules

@@ -1,8 +1,8 @@
 // The words of the decisions, written into lent words.
 
 ghost use Rattle.std.specs.Prelude.{◌≡◌, ◌≤◌, length, take, set};
-ghost use Rattle.log.specs.Log.{words};
-ghost use Rattle.log.specs.Words.{put_words, over};
+ghost use Rattle.decision_log.specs.Log.{words};
+ghost use Rattle.decision_log.specs.Words.{put_words, over};
 
 use crate::{DECISIONS, Decision, kind_word};
 use small::lesser;

@@ -1,7 +1,7 @@
--- `log::words::put_words` meets its contract.
+-- `decision_log::words::put_words` meets its contract.
 use borrow.Author.Rules.{rules}
-use Rattle.log.proofs.words.put_words.Statement.{statement}
-use Rattle.log.proofs.words.put_words.Tie as tie
+use Rattle.decision_log.proofs.words.put_words.Statement.{statement}
+use Rattle.decision_log.proofs.words.put_words.Tie as tie
 
 put-word-requires : tie.Need-put-word-requires
 put-word-requires c κs = search rules

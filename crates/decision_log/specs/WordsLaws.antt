@@ -3,9 +3,9 @@ use Rattle.std.specs.Prelude.{◌≡◌, refl, List, [], ◌∷◌, ◌++◌, �
 use Rattle.std.proofs.Common.{ap, ◌∙◌, ⊎_elim, append_assoc, arith, add-one, length-append, length-drop, drop-cons, take-suc, take_all, length-take-le}
 use Rattle.std.proofs.Math.Seq.{set-append_seam}
 use Rattle.laws.specs.Tests.{le_or_lt}
-use Rattle.log.specs.Log.{kind_word, words_of, words}
-use Rattle.log.specs.Words.{over, put_words}
-use Rattle.log.specs.declared.Decision.{Decision}
+use Rattle.decision_log.specs.Log.{kind_word, words_of, words}
+use Rattle.decision_log.specs.Words.{over, put_words}
+use Rattle.decision_log.specs.declared.Decision.{Decision}
 
 -- a word behind those in front
 put_next : (ws out : List ℕ) (k x : ℕ) → length ws ≡ k → k < length out → set (ws ++ drop k out) k x ≡ (ws ++ (x ∷ [])) ++ drop (k + 1) out

@@ -1,7 +1,7 @@
 -- The words of the decisions in front of a buffer.
 use Rattle.std.specs.Prelude.{List, ◌++◌, ℕ, ◌+◌, length, drop, set}
-use Rattle.log.specs.Log.{kind_word}
-use Rattle.log.specs.declared.Decision.{Decision}
+use Rattle.decision_log.specs.Log.{kind_word}
+use Rattle.decision_log.specs.declared.Decision.{Decision}
 
 -- words in front, the rest as it was
 abbrev pub over : List ℕ → List ℕ → List ℕ

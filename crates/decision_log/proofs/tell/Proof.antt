@@ -1,8 +1,8 @@
--- `log::tell` meets its contract.
+-- `decision_log::tell` meets its contract.
 use borrow.Author.Rules.{rules}
-use Rattle.log.specs.Log.{told}
-use Rattle.log.proofs.tell.Statement.{statement}
-use Rattle.log.proofs.tell.Tie as tie
+use Rattle.decision_log.specs.Log.{told}
+use Rattle.decision_log.proofs.tell.Statement.{statement}
+use Rattle.decision_log.proofs.tell.Tie as tie
 
 put-decision-requires : tie.Need-put-decision-requires
 put-decision-requires c κs = search rules

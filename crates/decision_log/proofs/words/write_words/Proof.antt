@@ -1,14 +1,14 @@
--- `log::words::write_words` meets its contract.
+-- `decision_log::words::write_words` meets its contract.
 use borrow.Author.Rules.{rules}
-use Rattle.log.specs.Log.{words}
-use Rattle.log.specs.WordsLaws.{words_turn, words_done, words_size}
+use Rattle.decision_log.specs.Log.{words}
+use Rattle.decision_log.specs.WordsLaws.{words_turn, words_done, words_size}
 use native.Mathlib.Omega.{arith}
 use mathlib.Core.Path.{◌≡◌, refl, ◌∙◌}
 use mathlib.Core.List.{◌++◌}
 use lib.ListN.{take, drop}
 use Prim.Native.Nat.{◌≤◌, ◌-◌, ◌+◌, ◌*◌}
-use Rattle.log.proofs.words.write_words.Statement.{statement}
-use Rattle.log.proofs.words.write_words.Tie as tie
+use Rattle.decision_log.proofs.words.write_words.Statement.{statement}
+use Rattle.decision_log.proofs.words.write_words.Tie as tie
 
 abbrev invariant-loop : tie.invariant-loop
 invariant-loop out₀ count table n i₀ out i = (i ≤ n) × (n ≤ 129) × (out ≡ words (take i table) ++ drop (4 * i) out₀)
