@@ -1,6 +1,6 @@
 -- What giving slices in table order keeps and changes.
 use Rattle.std.specs.Prelude.{◌≡◌, true, false, eqb, length, get_or, take}
-use Rattle.std.proofs.Math.Path.{refl, ap}
+use Rattle.std.proofs.Math.Path.{refl, ap, sym, subst}
 use mathlib.Core.List.{List, [], ◌∷◌}
 use Prim.Native.Nat.{ℕ, zero, suc, ◌+◌, ◌-◌, ◌<◌, ◌≤◌, min}
 use native.Mathlib.Omega.{arith}
@@ -77,7 +77,9 @@ but_one profile (suc m) i zero (g ∷ gpus) h l =
     rw (eq-eqb i (i + 0) (omega arith)) (omega (arith, but_past profile (i + 0) m (i + 1) gpus (omega arith)))
 but_one profile (suc m) i (suc k) (g ∷ gpus) h l =
     let e : i + suc k ≡ i + 1 + k = omega arith in
-    rw (ne_eqb i (i + suc k) (λ z. omega arith), e) (omega (arith, but_one profile m (i + 1) k gpus (omega arith) (omega arith)))
+    rw (ne_eqb i (i + suc k) (λ z. omega arith)) (
+    subst (λ x. free_slices g profile + free_but profile x m (i + 1) gpus + free_slices (get_or gpus k no_gpu) profile ≡ free_slices g profile + sumOver (λ g. free_slices g profile) (take m gpus)) (sym e)
+    (omega (arith, but_one profile m (i + 1) k gpus (omega arith) (omega arith))))
 
 -- ---- giving in order
 
@@ -135,4 +137,5 @@ order_except profile owner left (suc m) i zero (g ∷ gpus) =
     rw (eq-eqb i (i + 0) (omega arith)) (given_none g profile owner)
 order_except profile owner left (suc m) i (suc k) (g ∷ gpus) =
     let e : i + suc k ≡ i + 1 + k = omega arith in
-    rw e (order_except profile owner (left - gives g profile left i (i + 1 + k)) m (i + 1) k gpus)
+    subst (λ x. get_or (in_order profile owner x (left - gives g profile left i x) m (i + 1) gpus) k no_gpu ≡ get_or gpus k no_gpu) (sym e)
+    (order_except profile owner (left - gives g profile left i (i + 1 + k)) m (i + 1) k gpus)

@@ -3,8 +3,9 @@
 ghost use Rattle.std.specs.Prelude.{◌≤◌};
 ghost use Rattle.io.specs.Counts.{IsPrefixLen};
 
+use crate::input::read_full;
 use crate::word::first_word;
-use libc::STDIN_FILENO;
+use std::io::Read;
 
 // The word's top bit says that its trace is asked for without event lines.
 const BARE: u64 = 0x8000_0000;
@@ -26,9 +27,9 @@ fn least(a: usize, b: usize) -> usize
     b
 }
 
-fn head() -> Frame {
+fn head(input: &mut impl Read) -> Frame {
     let mut four = [0u8; 4];
-    let n = io::read_full(STDIN_FILENO, &mut four);
+    let n = read_full(input, &mut four);
     let word = first_word(&four);
     Frame {
         over: n < 4,
@@ -37,19 +38,19 @@ fn head() -> Frame {
     }
 }
 
-fn skip_some(n: usize) -> usize
+fn skip_some(input: &mut impl Read, n: usize) -> usize
     ensures { result ≤ n }
 {
     let mut buffer = io::buffer();
     let want = least(n, 4096);
-    least(io::read_full(STDIN_FILENO, &mut buffer[..want]), n)
+    least(read_full(input, &mut buffer[..want]), n)
 }
 
 // Reads past n bytes, or to the end of the input.
-fn skip(n: usize) {
+fn skip(input: &mut impl Read, n: usize) {
     let mut left = n;
     while left > 0 {
-        let got = skip_some(left);
+        let got = skip_some(input, left);
         if got == 0 {
             return;
         }
@@ -58,10 +59,10 @@ fn skip(n: usize) {
 }
 
 // Of a frame longer than the buffer the rest is read past.
-pub fn next_frame(buffer: &mut [u8]) -> Frame
+pub fn next_frame(input: &mut impl Read, buffer: &mut [u8]) -> Frame
     ensures { IsPrefixLen result.length buffer.new }
 {
-    let head = head();
+    let head = head(input);
     if head.over {
         return Frame {
             over: true,
@@ -70,8 +71,8 @@ pub fn next_frame(buffer: &mut [u8]) -> Frame
         };
     }
     let want = least(head.length, buffer.len());
-    let got = io::read_full(STDIN_FILENO, &mut buffer[..want]);
-    skip(head.length - want);
+    let got = read_full(input, &mut buffer[..want]);
+    skip(input, head.length - want);
     Frame {
         over: got < want,
         bare: head.bare,

@@ -1,7 +1,5 @@
 // Lines that are collected in lent bytes and written to standard output when the bytes are nearly full.
 
-use libc::STDOUT_FILENO;
-
 // The place after what is collected. lost: it could not be written, and nothing more is to be.
 #[derive(Clone, Copy)]
 pub struct Page {
@@ -13,19 +11,19 @@ pub struct Page {
 const SPARE: usize = 9000;
 
 // Writes what is collected.
-pub fn write_page(out: &[u8], to: usize) -> Page {
+pub fn write_page(rt: &impl Print, out: &[u8], to: usize) -> Page {
     if to <= out.len() {
-        let whole = io::write_all(STDOUT_FILENO, &out[..to]);
+        let written = rt.write_all(&out[..to]);
         return Page {
             to: 0,
-            lost: !whole,
+            lost: written.is_err(),
         };
     }
     Page { to: 0, lost: true }
 }
 
 // Writes it only where there might be no room for the lines of another step.
-pub fn turn_page(out: &[u8], to: usize) -> Page {
+pub fn turn_page(rt: &impl Print, out: &[u8], to: usize) -> Page {
     if to < out.len() {
         if SPARE < out.len() - to {
             return Page {
@@ -34,5 +32,5 @@ pub fn turn_page(out: &[u8], to: usize) -> Page {
             };
         }
     }
-    write_page(out, to)
+    write_page(rt, out, to)
 }

@@ -1,0 +1,24 @@
+-- What is left to show of `all_of`.
+use Rattle.rows.specs.Gpu.{gpu_of}
+use Rattle.rows.specs.Rows.{read_step, read_end}
+use lib.ListN.{length-set}
+use native.Mathlib.Omega.{arith}
+use mathlib.Core.Path.{refl}
+use Rattle.rows.proofs.gpu.all_of.Goals as goal
+
+pub loop-i-init : goal.loop-i-init
+loop-i-init c = (omega arith, refl, refl)
+
+pub loop-i-preserved : goal.loop-i-preserved
+loop-i-preserved c =
+    let here = c.loop-i in
+    let start = c.args in (
+      omega arith,
+      simp length-set (omega arith),
+      read_step gpu_of start.cards.now here.table here.i _ c.gpu_of.result (omega arith) (omega arith) c.gpu_of.ensures here.invariant.2,
+    )
+
+pub returns : goal.returns
+returns c =
+    let here = c.loop-i in
+    read_end gpu_of c.args.cards.now here.table here.i (omega arith) (omega arith) here.invariant.2

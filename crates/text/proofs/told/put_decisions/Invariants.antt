@@ -1,0 +1,9 @@
+-- The loop of `put_decisions`: so many decisions are told.
+use Rattle.std.proofs.Common.{◌≤◌, ◌-◌}
+use Rattle.text.proofs.told.put_decisions.Given as goal
+
+abbrev pub invariant-loop-i : goal.invariant-loop-i
+invariant-loop-i l = l.i ≤ l.n
+
+abbrev pub decreases-loop-i : goal.decreases-loop-i
+decreases-loop-i l = l.n - l.i
