@@ -1,6 +1,6 @@
 /* The proved GPU planner as a library: a whole trace planned by one call, or a plan taken on step by step.
  *
- * Link target/staticlib/libgpu_planner.a, which `rt staticlib gpu_planner` writes; it links into x86-64 Linux programs alone.
+ * Link target/staticlib/libgpu_planner.a, which `library/archive` writes; it links into x86-64 Linux programs alone.
  * The library keeps nothing between calls, takes no memory from the system, reads and writes no file, and changes no word but
  * those lent to it. Calls may run at the same time on several threads, each with words of its own. */
 #ifndef GPU_PLANNER_H

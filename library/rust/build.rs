@@ -22,7 +22,7 @@ fn main() {
     let archive = folder.join("libgpu_planner.a");
     let Ok(archive) = archive.canonicalize() else {
         stop(&format!(
-            "no {}: run `rt staticlib gpu_planner`, or name its folder in GPU_PLANNER_LIB",
+            "no {}: run `library/archive`, or name its folder in GPU_PLANNER_LIB",
             archive.display()
         ));
     };

@@ -4,7 +4,7 @@ use Rattle.std.proofs.Common.{length-take-le}
 use Rattle.laws.specs.Lists.{All, Distinct, all_of, all_take, distinct_take, pad_take}
 use Rattle.laws.specs.Search.{has, has_at, Rising, rising_before}
 use Rattle.laws.specs.Sort.{only_keeps, only_distinct}
-use Rattle.eligible.specs.Chosen.{chosen, list_of, keyed, with_key}
+use Rattle.eligible.specs.Chosen.{list_of, keyed, with_key}
 use Rattle.fit.specs.declared.first.Choice.{Choice}
 use Rattle.fit.specs.First.{took, first_fit}
 

@@ -90,8 +90,7 @@ fn place_held(plan: HeldPlan, job: usize) -> u64
 }
 
 // Loads a trace into the plan that is lent; refused, the plan is the empty one.
-#[unsafe(no_mangle)]
-pub extern "C" fn planner_load(trace: &[u8], plan: &mut HeldPlan) -> u64
+pub fn planner_load(trace: &[u8], plan: &mut HeldPlan) -> u64
     ensures { (result ≡ load_word (Load.load trace.now).answer)
         × (plan.new ≡ held_plan (Load.load trace.now).plan) }
 {
@@ -101,8 +100,7 @@ pub extern "C" fn planner_load(trace: &[u8], plan: &mut HeldPlan) -> u64
 }
 
 // Takes the next step of the plan that is lent, and writes its decisions into the words.
-#[unsafe(no_mangle)]
-pub extern "C" fn planner_step(plan: &mut HeldPlan, words: &mut [u64]) -> u64
+pub fn planner_step(plan: &mut HeldPlan, words: &mut [u64]) -> u64
     ensures { (result ≡ step_word (stepped (plan_in plan.old) (length words.old)).answer)
         × (plan.new ≡ held_plan (stepped (plan_in plan.old) (length words.old)).plan)
         × (words.new ≡ words_after (plan_in plan.old) words.old) }
@@ -113,8 +111,7 @@ pub extern "C" fn planner_step(plan: &mut HeldPlan, words: &mut [u64]) -> u64
 }
 
 // Whether a job is placeable in the plan that is lent, as it is.
-#[unsafe(no_mangle)]
-pub extern "C" fn planner_can_place(plan: &HeldPlan, job: usize) -> u64
+pub fn planner_can_place(plan: &HeldPlan, job: usize) -> u64
     ensures { result ≡ place_word (question (plan_in plan.now) job) }
 {
     place_held(*plan, job)

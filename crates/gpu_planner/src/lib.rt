@@ -1,4 +1,4 @@
-// The planner as a library that C and Rust link: a whole trace planned into lent words.
+// The planner as a library: a whole trace planned into lent words. `gpu_planner_c` exports it to C and Rust.
 
 #![tactic(auto)]
 
@@ -20,8 +20,7 @@ pub const RUN_WORDS: usize = 5128;
 // Plans a trace to its end and returns the answer: 10 where the words are too few, and then they all stay as they were.
 // Else: word 0 the answer, word 1 the place of a refused load, word 2 the accepted steps, word 3 the decisions; from word 4 on
 // the decisions, four words each as `step` writes them; every other word stays as it was.
-#[unsafe(no_mangle)]
-pub extern "C" fn planner_run(trace: &[u8], words: &mut [u64]) -> u64
+pub fn planner_run(trace: &[u8], words: &mut [u64]) -> u64
     ensures value { result ≡ ran_answer trace.now words.old }
     ensures words_after { words.new ≡ ran_words trace.now words.old }
 {

@@ -8,8 +8,8 @@ ghost use Rattle.gpu_planner.specs.Head.{ended_head};
 ghost use Rattle.gpu_planner.specs.Run.{run_to, turns};
 
 use crate::head::Head;
-use happen::Rest;
 use decision_log::DECISIONS;
+use happen::Rest;
 use model::sizes::{EVENTS, GPUS, JOBS};
 use planner::Taken;
 use planner::lent::step_lent;

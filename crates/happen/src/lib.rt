@@ -8,9 +8,9 @@ ghost use Rattle.happen.specs.Happen.{stale, said, arrives, completes, times_out
 
 use cluster::gpus::free_all;
 use cluster::usage::is_running;
+use decision_log::{Kind, Log, empty_log, first_log};
 use life::{end, fail, wait};
 use line::keep::{is_waiting, keep_waiting};
-use decision_log::{Kind, Log, empty_log, first_log};
 use model::event::Event;
 use model::job::Job;
 use model::number::{bits_of, is_permitted};

@@ -5,8 +5,8 @@ ghost use Rattle.rows.specs.Job.{jobs_of};
 ghost use Rattle.laws.specs.Search.{has};
 ghost use Rattle.line.specs.Line.{new_line, joined, joined_all};
 
-use eligible::chosen::no_ids;
 use decision_log::{Kind, Log, tell};
+use eligible::chosen::no_ids;
 use model::number::{bits_of, is_permitted};
 use model::plan::put_queue;
 use model::sizes::JOBS;

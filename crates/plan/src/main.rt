@@ -7,9 +7,12 @@ mod run;
 ghost use Rattle.std.specs.Prelude.{◌≡◌, length};
 
 use gpu_planner::RUN_WORDS;
-use libc::{STDERR_FILENO, STDIN_FILENO};
 use run::plan_trace;
+use std::env::Env;
+use std::io::Read;
+use text::command::{arg, arg_count};
 use text::frame::next_frame;
+use text::input::read_full;
 use text::page::{turn_page, write_page};
 use text::put::put_bytes;
 use text::same::is_same;
@@ -30,70 +33,88 @@ fn kept() -> [u8; KEPT]
     [0; KEPT]
 }
 
-fn plan_one(buffer: &mut [u8], words: &mut [u64], out: &mut [u8]) {
-    let n = io::read_full(STDIN_FILENO, buffer);
-    let page = plan_trace(&buffer[..n], words, out, 0);
+fn plan_one(
+    rt: &impl Print,
+    input: &mut impl Read,
+    buffer: &mut [u8],
+    words: &mut [u64],
+    out: &mut [u8],
+) {
+    let n = read_full(input, buffer);
+    let page = plan_trace(rt, &buffer[..n], words, out, 0);
     if page.lost {
         return;
     }
-    write_page(out, page.to);
+    write_page(rt, out, page.to);
 }
 
 // Where the input is over, all that is collected is written.
-fn plan_next(buffer: &mut [u8], words: &mut [u64], out: &mut [u8], at: usize) -> Next {
-    let frame = next_frame(buffer);
+fn plan_next(
+    rt: &impl Print,
+    input: &mut impl Read,
+    buffer: &mut [u8],
+    words: &mut [u64],
+    out: &mut [u8],
+    at: usize,
+) -> Next {
+    let frame = next_frame(input, buffer);
     if frame.over {
-        write_page(out, at);
+        write_page(rt, out, at);
         return Next { to: 0, more: false };
     }
     let n = frame.length;
-    let page = plan_trace(&buffer[..n], words, out, at);
+    let page = plan_trace(rt, &buffer[..n], words, out, at);
     if page.lost {
         return Next { to: 0, more: false };
     }
     let to = put_bytes(out, page.to, b".\n");
-    let turned = turn_page(out, to);
+    let turned = turn_page(rt, out, to);
     Next {
         to: turned.to,
         more: !turned.lost,
     }
 }
 
-// The turns are counted down because nothing says that the input ends.
-fn plan_all(buffer: &mut [u8], words: &mut [u64], out: &mut [u8]) {
-    let mut turns = u64::MAX;
+// The turns are counted because nothing says that the input ends.
+fn plan_all(
+    rt: &impl Print,
+    input: &mut impl Read,
+    buffer: &mut [u8],
+    words: &mut [u64],
+    out: &mut [u8],
+) {
     let mut to: usize = 0;
-    while turns > 0 {
-        let next = plan_next(buffer, words, out, to);
+    for _ in 0..u64::MAX {
+        let next = plan_next(rt, input, buffer, words, out, to);
         if !next.more {
             return;
         }
         to = next.to;
-        turns = turns - 1;
     }
 }
 
 // Whether the only word after the program's name is --batch.
-fn is_batch() -> bool {
+fn is_batch(rt: &impl Env) -> bool {
     let mut word = [0u8; 16];
-    let n = os::arg(1, &mut word);
+    let n = arg(rt, 1, &mut word);
     is_same(&word[..n], b"--batch")
 }
 
-fn main() {
-    let given = os::arg_count();
+fn main(rt: HostRuntime) -> std::io::Result<()> {
+    let given = arg_count(&rt);
+    let mut input = rt.reader();
     let mut buffer = kept();
     let mut words = [0u64; RUN_WORDS];
     let mut out = io::large_buffer();
     if given < 2 {
-        plan_one(&mut buffer, &mut words, &mut out);
-        return;
+        plan_one(&rt, &mut input, &mut buffer, &mut words, &mut out);
+        return Ok(());
     }
     if given == 2 {
-        if is_batch() {
-            plan_all(&mut buffer, &mut words, &mut out);
-            return;
+        if is_batch(&rt) {
+            plan_all(&rt, &mut input, &mut buffer, &mut words, &mut out);
+            return Ok(());
         }
     }
-    io::write_all(STDERR_FILENO, b"usage: plan [--batch] < trace\n");
+    eprintln!(rt; "usage: plan [--batch] < trace")
 }

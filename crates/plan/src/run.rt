@@ -7,14 +7,14 @@ use text::page::{Page, turn_page};
 use text::told::{Last, put_last, put_told};
 
 // A line a decision; the page is written whenever it is nearly full.
-fn put_all(out: &mut [u8], at: usize, told: &[u64]) -> Page {
+fn put_all(rt: &impl Print, out: &mut [u8], at: usize, told: &[u64]) -> Page {
     let n = told.len() / 4;
     let mut to = at;
     let mut i: usize = 0;
     while i < n {
         let w = 4 * i;
         let after = put_told(out, to, told[w], told[w + 1], told[w + 2], told[w + 3]);
-        let page = turn_page(out, after);
+        let page = turn_page(rt, out, after);
         if page.lost {
             return page;
         }
@@ -54,13 +54,19 @@ fn last_of(answer: u64, place: u64, steps: u64) -> Last {
 }
 
 // The lines of a trace, from a place of the page on. The words are those that a run is lent.
-pub fn plan_trace(bytes: &[u8], words: &mut [u64], out: &mut [u8], at: usize) -> Page {
+pub fn plan_trace(
+    rt: &impl Print,
+    bytes: &[u8],
+    words: &mut [u64],
+    out: &mut [u8],
+    at: usize,
+) -> Page {
     let answer = planner_run(bytes, words);
     if words.len() < 4 {
         return Page { to: at, lost: true };
     }
     let end = end_of(words.len(), words[3]);
-    let page = put_all(out, at, &words[4..end]);
+    let page = put_all(rt, out, at, &words[4..end]);
     if page.lost {
         return page;
     }

@@ -7,9 +7,9 @@ ghost use Rattle.happen.specs.Happen.{whole_plan};
 ghost use Rattle.planner.specs.Lent.{rest_of, Left};
 
 use crate::{Taken, WORDS};
+use decision_log::words::write_words;
 use engine::advance::{advance, next_event};
 use happen::Rest;
-use decision_log::words::write_words;
 use model::plan::Plan;
 use model::sizes::{EVENTS, GPUS, JOBS};
 use room::is_used;

@@ -1,7 +1,7 @@
 // Cases of kind 1: the answer of a load, a byte for its number and a word for its place.
 
 use crate::stored::word_at;
-use libc::STDOUT_FILENO;
+use text::page::write_page;
 use text::put::{put_answer, put_bytes, put_decimal, put_newline};
 use text::word::byte_at;
 use trace::answer::{number_of, place_of};
@@ -28,7 +28,7 @@ fn is_same(a: Told, b: Told) -> bool {
     false
 }
 
-fn report(case: u64, expected: Told, got: Told) {
+fn report(rt: &impl Print, case: u64, expected: Told, got: Told) {
     let mut line = [0u8; 160];
     let mut to = put_bytes(&mut line, 0, b"case ");
     to = put_decimal(&mut line, to, case);
@@ -37,11 +37,11 @@ fn report(case: u64, expected: Told, got: Told) {
     to = put_bytes(&mut line, to, b", got ");
     to = put_answer(&mut line, to, got.number, got.place);
     to = put_newline(&mut line, to);
-    io::write_all(STDOUT_FILENO, &line[..to]);
+    write_page(rt, &line, to);
 }
 
 // Whether the load of a trace answers what is expected.
-pub fn is_right(case: u64, bytes: &[u8], answer: &[u8]) -> bool {
+pub fn is_right(rt: &impl Print, case: u64, bytes: &[u8], answer: &[u8]) -> bool {
     let expected = Told {
         number: byte_at(answer, 0),
         place: word_at(answer, 1) as u64,
@@ -52,6 +52,6 @@ pub fn is_right(case: u64, bytes: &[u8], answer: &[u8]) -> bool {
             return true;
         }
     }
-    report(case, expected, got);
+    report(rt, case, expected, got);
     false
 }

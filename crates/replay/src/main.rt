@@ -8,8 +8,9 @@ mod stored;
 
 ghost use Rattle.std.specs.Prelude.{◌≡◌, ◌≤◌, ◌<◌, length};
 
-use libc::{STDIN_FILENO, STDOUT_FILENO};
 use stored::{after, part, unpack, word_at};
+use text::input::read_full;
+use text::page::write_page;
 use text::put::{put_bytes, put_decimal};
 use text::word::byte_at;
 
@@ -25,23 +26,23 @@ pub struct Ran {
     pub next: usize,
 }
 
-fn is_right(case: u64, kind: u64, bytes: &[u8], answer: &[u8]) -> bool {
+fn is_right(rt: &impl Print, case: u64, kind: u64, bytes: &[u8], answer: &[u8]) -> bool {
     if kind == 1 {
-        return load::is_right(case, bytes, answer);
+        return load::is_right(rt, case, bytes, answer);
     }
     if kind == 2 {
-        return plan::is_right(case, bytes, answer);
+        return plan::is_right(rt, case, bytes, answer);
     }
     let mut line = [0u8; 80];
     let mut to = put_bytes(&mut line, 0, b"case ");
     to = put_decimal(&mut line, to, case);
     to = put_bytes(&mut line, to, b": no such kind\n");
-    io::write_all(STDOUT_FILENO, &line[..to]);
+    write_page(rt, &line, to);
     false
 }
 
 // The case at a place of the file.
-fn run_case(file: &[u8], at: usize, case: u64, trace: &mut [u8]) -> Ran
+fn run_case(rt: &impl Print, file: &[u8], at: usize, case: u64, trace: &mut [u8]) -> Ran
     requires { at < length file.now }
     ensures { (at < result.next) × (result.next ≤ length file.now) }
 {
@@ -53,33 +54,33 @@ fn run_case(file: &[u8], at: usize, case: u64, trace: &mut [u8]) -> Ran
     let end = after(start, size, n);
     let bytes = part(trace, 0, unpacked.length);
     Ran {
-        right: is_right(case, kind, bytes, part(file, start, end)),
+        right: is_right(rt, case, kind, bytes, part(file, start, end)),
         next: end,
     }
 }
 
-fn sum_up(cases: u64, wrong: u64) {
+fn sum_up(rt: &impl Print, cases: u64, wrong: u64) {
     let mut line = [0u8; 80];
     let mut to = put_decimal(&mut line, 0, cases);
     to = put_bytes(&mut line, to, b" vectors, ");
     to = put_decimal(&mut line, to, wrong);
     to = put_bytes(&mut line, to, b" wrong\n");
-    io::write_all(STDOUT_FILENO, &line[..to]);
+    write_page(rt, &line, to);
 }
 
-fn run_all(file: &[u8], trace: &mut [u8]) {
+fn run_all(rt: &impl Print, file: &[u8], trace: &mut [u8]) {
     let mut at: usize = 0;
     let mut cases: u64 = 0;
     let mut wrong: u64 = 0;
     while at < file.len() {
-        let ran = run_case(file, at, cases, trace);
+        let ran = run_case(rt, file, at, cases, trace);
         cases = cases + 1;
         if !ran.right {
             wrong = wrong + 1;
         }
         at = ran.next;
     }
-    sum_up(cases, wrong);
+    sum_up(rt, cases, wrong);
 }
 
 fn room() -> [u8; ROOM]
@@ -94,9 +95,10 @@ fn kept() -> [u8; KEPT]
     [0; KEPT]
 }
 
-fn main() {
+fn main(rt: HostRuntime) {
+    let mut input = rt.reader();
     let mut file = room();
-    let n = io::read_full(STDIN_FILENO, &mut file);
+    let n = read_full(&mut input, &mut file);
     let mut trace = kept();
-    run_all(&file[..n], &mut trace);
+    run_all(&rt, &file[..n], &mut trace);
 }

@@ -1,9 +1,9 @@
 // Cases of kind 2: a whole plan, by the lines that have to be printed.
 
 use crate::stored::{after, part};
-use libc::STDOUT_FILENO;
 use model::plan::Plan;
 use planner::{Taken, WORDS};
+use text::page::write_page;
 use text::put::{put_bytes, put_decimal};
 use text::same::is_same;
 use text::told::{Last, put_decisions, put_last};
@@ -87,7 +87,7 @@ fn planned(trace: &[u8], expected: &[u8], out: &mut [u8]) -> Met {
     meet_last(expected, 0, out, number_of(answer), place_of(answer) as u64)
 }
 
-fn report(case: u64, bytes: usize) {
+fn report(rt: &impl Print, case: u64, bytes: usize) {
     let mut line = [0u8; 160];
     let mut to = put_bytes(&mut line, 0, b"case ");
     to = put_decimal(&mut line, to, case);
@@ -98,15 +98,15 @@ fn report(case: u64, bytes: usize) {
     );
     to = put_decimal(&mut line, to, bytes as u64);
     to = put_bytes(&mut line, to, b" bytes\n");
-    io::write_all(STDOUT_FILENO, &line[..to]);
+    write_page(rt, &line, to);
 }
 
 // Whether the plan of a trace is printed as expected.
-pub fn is_right(case: u64, trace: &[u8], expected: &[u8]) -> bool {
+pub fn is_right(rt: &impl Print, case: u64, trace: &[u8], expected: &[u8]) -> bool {
     let mut out = io::large_buffer();
     let met = planned(trace, expected, &mut out);
     if met.wrong {
-        report(case, met.bytes);
+        report(rt, case, met.bytes);
         return false;
     }
     true

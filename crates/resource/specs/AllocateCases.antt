@@ -16,7 +16,6 @@ use Rattle.choice.specs.Choose.{why_not_here, choose}
 use Rattle.choice.specs.ChooseLaws.{choose_none, choose_enough}
 use Rattle.choice.specs.Why.{is_enough}
 use Rattle.choice.specs.declared.why.Why.{Why}
-use Rattle.choice.specs.declared.why.Why.TheVariants as Why
 use Rattle.resource.specs.Quota.{within_quota}
 use Rattle.resource.specs.Cause.{whole_cause, resource_cause, first_cause, is_none, placeable}
 use Rattle.resource.specs.Allocate.{whole_allocation, unplaced, whole_allocated, whole_or_none, slices_got, allocated}

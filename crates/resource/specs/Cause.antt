@@ -7,7 +7,6 @@ use Rattle.model.specs.declared.setting.Setting.{Setting}
 use Rattle.mig.specs.Allocate.{slices_placeable}
 use Rattle.choice.specs.Choose.{why_not_here}
 use Rattle.choice.specs.declared.why.Why.{Why}
-use Rattle.choice.specs.declared.why.Why.TheVariants as Why
 use Rattle.resource.specs.Quota.{within_quota}
 use Rattle.resource.specs.declared.cause.Cause.{Cause}
 use Rattle.resource.specs.declared.cause.Cause.TheVariants.{NoCause, OverQuota, NoCount, NotMultiple, TooFew, NoProfile, TooManySlices, NoIdle}

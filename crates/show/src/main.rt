@@ -16,9 +16,9 @@ mod words;
 
 ghost use Rattle.std.specs.Prelude.{◌≡◌, length};
 
-use libc::STDERR_FILENO;
 use run::show_trace;
 use sheet::Asked;
+use std::io::Read;
 use text::frame::next_frame;
 use words::asked;
 
@@ -32,8 +32,14 @@ fn kept() -> [u8; KEPT]
 }
 
 // A bare frame asks for no events.
-fn show_next(buffer: &mut [u8], out: &mut [u8], all: Asked) -> bool {
-    let frame = next_frame(buffer);
+fn show_next(
+    rt: &impl Print,
+    input: &mut impl Read,
+    buffer: &mut [u8],
+    out: &mut [u8],
+    all: Asked,
+) -> bool {
+    let frame = next_frame(input, buffer);
     if frame.over {
         return false;
     }
@@ -42,27 +48,26 @@ fn show_next(buffer: &mut [u8], out: &mut [u8], all: Asked) -> bool {
         these.events = false;
     }
     let n = frame.length;
-    show_trace(&buffer[..n], out, these)
+    show_trace(rt, &buffer[..n], out, these)
 }
 
-// The turns are counted down because nothing says that the input ends.
-fn show_all(buffer: &mut [u8], out: &mut [u8], all: Asked) {
-    let mut turns = u64::MAX;
-    while turns > 0 && show_next(buffer, out, all) {
-        turns = turns - 1;
+// The turns are counted because nothing says that the input ends.
+fn show_all(rt: &impl Print, input: &mut impl Read, buffer: &mut [u8], out: &mut [u8], all: Asked) {
+    for _ in 0..u64::MAX {
+        if !show_next(rt, input, buffer, out, all) {
+            return;
+        }
     }
 }
 
-fn main() {
-    let all = asked();
+fn main(rt: HostRuntime) -> std::io::Result<()> {
+    let all = asked(&rt);
     if all.known {
+        let mut input = rt.reader();
         let mut buffer = kept();
         let mut out = io::large_buffer();
-        show_all(&mut buffer, &mut out, all);
-        return;
+        show_all(&rt, &mut input, &mut buffer, &mut out, all);
+        return Ok(());
     }
-    io::write_all(
-        STDERR_FILENO,
-        b"usage: show [--details] [--events] [--digest] [--batch] < frames\n",
-    );
+    eprintln!(rt; "usage: show [--details] [--events] [--digest] [--batch] < frames")
 }

@@ -12,6 +12,7 @@ use trace::answer::{number_of, place_of};
 // What follows the lines before a place: the state and, asked for, the events. All tables full, the lines before and the state are
 // under 50,000 bytes and the events under 55,000: each of the two fits the page.
 fn show_state(
+    rt: &impl Print,
     out: &mut [u8],
     at: usize,
     sheet: Sheet,
@@ -21,26 +22,27 @@ fn show_state(
 ) -> Sheet {
     let room = plan.events;
     let mut to = state(out, at, plan, steps);
-    let before = hand_on(out, to, sheet);
+    let before = hand_on(rt, out, to, sheet);
     if queued {
         to = events(out, 0, room);
-        return hand_on(out, to, before);
+        return hand_on(rt, out, to, before);
     }
     before
 }
 
-fn show_last(out: &mut [u8], sheet: Sheet, number: u64, place: u64) -> bool {
+fn show_last(rt: &impl Print, out: &mut [u8], sheet: Sheet, number: u64, place: u64) -> bool {
     let last = Last {
         number: number,
         place: place,
     };
     let to = put_last(out, 0, last);
-    let whole = hand_on(out, to, sheet);
-    close(out, whole, last)
+    let whole = hand_on(rt, out, to, sheet);
+    close(rt, out, whole, last)
 }
 
 // A refused step has changed nothing, which the state shows once more.
 fn show_refused(
+    rt: &impl Print,
     out: &mut [u8],
     sheet: Sheet,
     plan: Plan,
@@ -53,11 +55,11 @@ fn show_refused(
         place: 0,
     };
     let to = put_last(out, 0, last);
-    let whole = show_state(out, to, sheet, plan, steps, queued);
-    close(out, whole, last)
+    let whole = show_state(rt, out, to, sheet, plan, steps, queued);
+    close(rt, out, whole, last)
 }
 
-fn run(loaded: Plan, out: &mut [u8], first: Sheet, queued: bool) -> bool {
+fn run(rt: &impl Print, loaded: Plan, out: &mut [u8], first: Sheet, queued: bool) -> bool {
     let mut words = [0u64; WORDS];
     let mut plan = loaded;
     let mut sheet = first;
@@ -70,11 +72,11 @@ fn run(loaded: Plan, out: &mut [u8], first: Sheet, queued: bool) -> bool {
             Taken::Decisions(n) => {
                 steps = steps + 1;
                 let to = put_decisions(out, 0, &words, n);
-                sheet = show_state(out, to, sheet, plan, steps, queued);
+                sheet = show_state(rt, out, to, sheet, plan, steps, queued);
             }
-            Taken::NoEvent => return show_last(out, sheet, 0, steps),
-            Taken::NotPermitted => return show_refused(out, sheet, plan, steps, queued, 12),
-            Taken::ShortBuffer => return show_refused(out, sheet, plan, steps, queued, 10),
+            Taken::NoEvent => return show_last(rt, out, sheet, 0, steps),
+            Taken::NotPermitted => return show_refused(rt, out, sheet, plan, steps, queued, 12),
+            Taken::ShortBuffer => return show_refused(rt, out, sheet, plan, steps, queued, 10),
         }
         if sheet.lost {
             return false;
@@ -84,14 +86,14 @@ fn run(loaded: Plan, out: &mut [u8], first: Sheet, queued: bool) -> bool {
 }
 
 // All lines of a trace. Answers whether they could be written.
-pub fn show_trace(bytes: &[u8], out: &mut [u8], asked: Asked) -> bool {
+pub fn show_trace(rt: &impl Print, bytes: &[u8], out: &mut [u8], asked: Asked) -> bool {
     let loaded = planner::load(bytes);
     let answer = loaded.answer;
     let plan = loaded.plan;
     let to = tables(out, 0, plan);
-    let sheet = show_state(out, to, new_sheet(asked), plan, 0, asked.events);
+    let sheet = show_state(rt, out, to, new_sheet(asked), plan, 0, asked.events);
     if number_of(answer) == 0 {
-        return run(plan, out, sheet, asked.events);
+        return run(rt, plan, out, sheet, asked.events);
     }
-    show_last(out, sheet, number_of(answer), place_of(answer) as u64)
+    show_last(rt, out, sheet, number_of(answer), place_of(answer) as u64)
 }

@@ -45,11 +45,11 @@ fn summed(out: &[u8], to: usize, sheet: Sheet) -> Sheet {
 }
 
 // Hands on what stands before a place.
-pub fn hand_on(out: &[u8], to: usize, sheet: Sheet) -> Sheet {
+pub fn hand_on(rt: &impl Print, out: &[u8], to: usize, sheet: Sheet) -> Sheet {
     if sheet.digest {
         return summed(out, to, sheet);
     }
-    let page = write_page(out, to);
+    let page = write_page(rt, out, to);
     Sheet {
         digest: false,
         sum: sheet.sum,
@@ -73,12 +73,12 @@ fn put_sum(out: &mut [u8], sheet: Sheet, last: Last) -> usize {
 }
 
 // What is printed last of a trace. Answers whether all of it could be written.
-pub fn close(out: &mut [u8], sheet: Sheet, last: Last) -> bool {
+pub fn close(rt: &impl Print, out: &mut [u8], sheet: Sheet, last: Last) -> bool {
     if sheet.lost {
         return false;
     }
     let at = put_sum(out, sheet, last);
     let to = put_bytes(out, at, b".\n");
-    let page = write_page(out, to);
+    let page = write_page(rt, out, to);
     !page.lost
 }

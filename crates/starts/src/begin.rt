@@ -4,8 +4,8 @@ ghost use Rattle.std.specs.Prelude.{◌≡◌, take, ◌&&◌};
 ghost use Rattle.model.specs.Number.{permitted};
 ghost use Rattle.starts.specs.Begin.{no_placing, amount, also_next, whole_begun, begun, begun_all};
 
-use life::{completion_at, multiplier_of, start, start_at};
 use decision_log::{Kind, Log, tell};
+use life::{completion_at, multiplier_of, start, start_at};
 use model::event::EventKind;
 use model::job::{Ask, Job};
 use model::number::{bits_of, is_permitted};

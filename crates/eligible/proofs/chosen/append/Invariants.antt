@@ -1,0 +1,13 @@
+-- What the loops of `append` keep true.
+use mathlib.Core.Path.{◌≡◌}
+use mathlib.Core.List.{◌++◌}
+use Prim.Native.Nat.{◌-◌, ◌≤◌, ◌+◌}
+use lib.ListN.{take}
+use Rattle.laws.specs.Lists.{pad}
+use Rattle.eligible.proofs.chosen.append.Given as goal
+
+abbrev pub invariant-loop-i : goal.invariant-loop-i
+invariant-loop-i l = (l.i ≤ l.n) × (l.n ≤ 128) × (l.start + l.n ≤ 128) × (l.ids ≡ pad 128 0 (take l.start l.initial.ids ++ take l.i l.more))
+
+abbrev pub decreases-loop-i : goal.decreases-loop-i
+decreases-loop-i l = l.n - l.i

@@ -1,2 +1,0 @@
--- What the walks of the lent plan share.
-pub mod Machine

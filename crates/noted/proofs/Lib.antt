@@ -1,2 +1,0 @@
--- What the walks of the lent totals share.
-pub mod Held

@@ -1,0 +1,7 @@
+-- What is left to show of `sort_line`.
+use Rattle.pass.specs.Walk.{sorted}
+use Rattle.pass.proofs.walk.sort_line.Goals as goal
+
+pub returns : goal.returns
+unfolding sorted
+returns c = λ gpus. rw (c.with_queue-after.ensures, c.sort_queue-ordered.ensures)
