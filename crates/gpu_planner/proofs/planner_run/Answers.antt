@@ -1,5 +1,5 @@
 -- What is left to show of `planner_run`.
-use native.Mathlib.Omega.{arith}
+use Rattle.std.proofs.Common.{arith}
 use Rattle.gpu_planner.specs.Ran.{done_short, done_ran}
 use Rattle.gpu_planner.proofs.planner_run.Goals as goal
 

@@ -1,9 +1,6 @@
 -- What the loops of `held_events` keep true.
+use Rattle.std.specs.Prelude.{length, take, drop, map, ◌++◌, ◌≡◌, ◌≤◌, ◌-◌}
 use Rattle.gpu_planner.specs.Held.{held_event}
-use lib.ListN.{length, take, drop}
-use mathlib.Core.List.{map, ◌++◌}
-use mathlib.Core.Path.{◌≡◌}
-use Prim.Native.Nat.{◌≤◌, ◌-◌}
 use Rattle.gpu_planner.proofs.held.held_events.Given as goal
 
 abbrev pub invariant-loop-i : goal.invariant-loop-i

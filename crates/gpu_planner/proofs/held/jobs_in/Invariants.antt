@@ -1,9 +1,6 @@
 -- What the loops of `jobs_in` keep true.
+use Rattle.std.specs.Prelude.{length, take, drop, map, ◌++◌, ◌≡◌, ◌≤◌, ◌-◌}
 use Rattle.gpu_planner.specs.Held.{job_in}
-use lib.ListN.{length, take, drop}
-use mathlib.Core.List.{map, ◌++◌}
-use mathlib.Core.Path.{◌≡◌}
-use Prim.Native.Nat.{◌≤◌, ◌-◌}
 use Rattle.gpu_planner.proofs.held.jobs_in.Given as goal
 
 abbrev pub invariant-loop-i : goal.invariant-loop-i

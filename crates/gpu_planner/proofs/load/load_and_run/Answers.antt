@@ -1,5 +1,5 @@
 -- What is left to show of `load_and_run`.
-use mathlib.Core.Path.{sym, ◌∙◌}
+use Rattle.std.proofs.Common.{sym, ◌∙◌}
 use Rattle.rows.specs.Job.{jobs_of}
 use Rattle.loader.specs.LoadLaws.{load_zeros}
 use Rattle.gpu_planner.specs.Load.{first_room, ran_lent, refused_lent}

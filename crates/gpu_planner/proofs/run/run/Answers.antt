@@ -1,6 +1,5 @@
 -- What is left to show of `run`.
-use mathlib.Core.Path.{refl, sym, ◌∙◌}
-use native.Mathlib.Omega.{arith}
+use Rattle.std.proofs.Common.{refl, sym, ◌∙◌, arith}
 use Rattle.happen.specs.Happen.{whole_plan}
 use Rattle.gpu_planner.specs.Run.{run_to}
 use Rattle.gpu_planner.specs.RunLaws.{lent_turn_is, lent_turn_on, next_top, turns_over, both_of}

@@ -1,7 +1,5 @@
 -- What the loops of `run` keep true.
-use mathlib.Core.Path.{◌≡◌}
-use Prim.Native.Nat.{◌≤◌, ◌-◌}
-use lib.ListN.{length}
+use Rattle.std.specs.Prelude.{◌≡◌, ◌≤◌, ◌-◌, length}
 use Rattle.rows.specs.Event.{events_of}
 use Rattle.room.specs.Top.{free_from}
 use Rattle.happen.specs.Happen.{whole_plan}
