@@ -12,7 +12,7 @@ use Rattle.rows.specs.Gpu.{gpu_of, zeros_gpu}
 use Rattle.rows.specs.Job.{job_of, zeros_job}
 use Rattle.trace.specs.Answer.{accepted, shifted, place_of}
 use Rattle.trace.specs.Record.{record_read}
-use Rattle.trace.specs.InsideLaws.{record_inside}
+use Rattle.trace.proofs.InsideLaws.{record_inside}
 use Rattle.trace.specs.declared.answer.Answer.TheVariants.{Accepted, EndsEarly, AfterEnd}
 use Rattle.trace.specs.declared.record.Record.{Record}
 use Rattle.loader.specs.Fault.{fault_of}
