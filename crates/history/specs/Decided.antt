@@ -23,7 +23,7 @@ use Rattle.apart.specs.Standing.{Standing, Looked, cleared, clear_behind}
 use Rattle.apart.specs.Leaving.{MayLeave, may_run}
 use Rattle.apart.specs.Keeps.{Kept, placing}
 use Rattle.pass.specs.declared.visit.Pass.{Pass}
-use Rattle.history.specs.Good.{job_at, JobOk, begun, came, begun_most, came_most}
+use Rattle.history.specs.Good.{job_at, JobOk, came, begun_most, came_most}
 use Rattle.history.specs.Owed.{Rest}
 use Rattle.history.specs.PassOwed.{Runs, runs_other, ToStart, still_to_start, cleared_jobs}
 use Rattle.history.specs.StartsGood.{begun_jobs}

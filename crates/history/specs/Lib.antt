@@ -14,7 +14,6 @@ pub mod Decided
 pub mod SumLaws
 pub mod Sums
 pub mod Prefixes
-pub mod PrefixesLaws
 pub mod Examples
 pub mod Owners
 pub mod OwnersFreed

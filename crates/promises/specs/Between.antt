@@ -32,8 +32,10 @@ use Rattle.pass.specs.declared.visit.Pass.{Pass}
 use Rattle.happen.specs.declared.Moment.{Moment}
 use Rattle.engine.specs.Settle.{pass_of, starts_of, with_pass, settled}
 use Rattle.history.specs.Good.{job_at, JobOk, Good, begun}
-use Rattle.history.specs.PassGood.{PassGood, pass_good}
-use Rattle.history.specs.StartsGood.{Room, starts_good}
+use Rattle.history.specs.PassGood.{PassGood}
+use Rattle.history.proofs.PassGood.{pass_good}
+use Rattle.history.specs.StartsGood.{Room}
+use Rattle.history.proofs.StartsGood.{starts_good}
 use Rattle.history.specs.Entries.{arriving}
 use Rattle.history.specs.Queued.{Counted, Grown, timed_one, timeouts_grown, starts_grown}
 use Rattle.history.specs.Owed.{Rest, all_events, all_few}

@@ -10,9 +10,7 @@ use Rattle.model.specs.Number.{bits_of, permitted, zero·0}
 use Rattle.model.specs.Setting.{default_options}
 use Rattle.model.specs.Job.{no_ask, new_job}
 use Rattle.model.specs.declared.job.Ask.{Ask}
-use Rattle.model.specs.declared.job.Job.{Job}
 use Rattle.model.specs.declared.plan.Plan.{Plan}
-use Rattle.model.specs.declared.setting.Options.{Options}
 use Rattle.decision_log.specs.declared.Decision.{Decision}
 use Rattle.trace.specs.declared.record.Record.{Record}
 use Rattle.trace.specs.declared.record.Record.TheVariants as R
@@ -23,7 +21,7 @@ use Rattle.planner.specs.Step.{words_needed, stepped}
 use Rattle.planner.specs.StepLaws.{accepted_for, accepted_plan}
 use Rattle.planner.specs.declared.Stepped.{Stepped}
 use Rattle.history.specs.Good.{job_at}
-use Rattle.history.specs.SumLaws.{permitted_plus, bits_plus}
+use Rattle.history.proofs.SumLaws.{permitted_plus, bits_plus}
 use Rattle.history.specs.TimesLaws.{OnTime, Fair}
 use Rattle.promises.specs.RecordFormLaws.{Ranged, bits_back}
 use Rattle.promises.specs.RunLaws.{records_of}

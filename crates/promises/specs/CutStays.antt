@@ -18,7 +18,8 @@ use Rattle.engine.specs.Settle.{pass_of, with_pass, settled}
 use Rattle.engine.specs.Advance.{next_event, has_event, with_event, by_kind, happened, advanced}
 use Rattle.planner.specs.Step.{words_needed, stepped}
 use Rattle.planner.specs.declared.Stepped.{Stepped}
-use Rattle.history.specs.CutLaws.{gpu_at, StaysCut, freed_stays, pass_stays}
+use Rattle.history.specs.CutLaws.{gpu_at, StaysCut}
+use Rattle.history.proofs.CutLaws.{freed_stays, pass_stays}
 use Rattle.promises.specs.Conditions.{Reached, begin, onward}
 use Rattle.promises.specs.OneHistory.{one_history}
 

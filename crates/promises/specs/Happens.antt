@@ -26,7 +26,8 @@ use Rattle.starts.specs.Timeout.{timeout_queued}
 use Rattle.starts.specs.Begin.{amount}
 use Rattle.happen.specs.Happen.{job_of, stale, said, joins, with_ahead, arrives, completes, times_out}
 use Rattle.history.specs.Good.{job_at, Good}
-use Rattle.history.specs.Changes.{in_table, good_waits, good_fails, good_ends}
+use Rattle.history.specs.Changes.{in_table}
+use Rattle.history.proofs.Changes.{good_waits, good_fails, good_ends}
 use Rattle.history.specs.Entries.{arriving}
 use Rattle.history.specs.Queued.{Grown, timeout_grown}
 use Rattle.history.specs.Owed.{Rest, all_events, owed_waits, owed_fails, owed_ends, owed_set, rest_below, rest_set}

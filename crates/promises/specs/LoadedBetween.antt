@@ -18,7 +18,8 @@ use Rattle.cluster.specs.Usage.{holding, charge_to, usage, running}
 use Rattle.life.specs.Life.{timed}
 use Rattle.cluster.specs.UsageLaws.{charge_none}
 use Rattle.history.specs.Told.{runs_from}
-use Rattle.history.specs.Good.{job_at, JobOk, Good, Now, good_now}
+use Rattle.history.specs.Good.{job_at, JobOk, Good, Now}
+use Rattle.history.proofs.Good.{good_now}
 use Rattle.history.specs.Entries.{in_use, used_one, is_arrival, arrival_one, arriving, sum_ones}
 use Rattle.history.specs.Owed.{events_of, all_events}
 use Rattle.history.specs.Good.{came}

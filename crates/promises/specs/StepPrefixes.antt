@@ -21,7 +21,7 @@ use Rattle.engine.specs.Settle.{pass_of, starts_of, settled}
 use Rattle.engine.specs.Advance.{next_event, has_event, with_event, by_kind, happened, advanced}
 use Rattle.history.specs.Told.{is_evicted}
 use Rattle.history.specs.Prefixes.{evicts_for, visits, visitor, after, Outcome, Evicts}
-use Rattle.history.specs.PrefixesLaws.{step_prefixes, pass_visit}
+use Rattle.history.proofs.PrefixesLaws.{step_prefixes, pass_visit}
 use Rattle.promises.specs.Between.{Amid}
 use Rattle.promises.specs.Happens.{one_told, empty_told}
 use Rattle.promises.specs.Steps.{happened_amid}

@@ -26,8 +26,10 @@ use Rattle.happen.specs.declared.Moment.{Moment}
 use Rattle.engine.specs.Settle.{pass_of, starts_of, with_pass, settled}
 use Rattle.engine.specs.Advance.{next_event, has_event, with_event, by_kind, happened, advanced}
 use Rattle.history.specs.Entries.{is_arrival}
-use Rattle.history.specs.SumLaws.{plus, permitted_plus}
-use Rattle.history.specs.TimesLaws.{OnTime, AllOnTime, taken_on_time, timeout_on_time, timeouts_on_time, Remains, set_remains, pass_remains, Fair, BegunOnTime, starts_on_time}
+use Rattle.history.specs.SumLaws.{plus}
+use Rattle.history.proofs.SumLaws.{permitted_plus}
+use Rattle.history.specs.TimesLaws.{OnTime, AllOnTime, Remains, Fair, BegunOnTime}
+use Rattle.history.proofs.TimesLaws.{taken_on_time, timeout_on_time, timeouts_on_time, set_remains, pass_remains, starts_on_time}
 use Rattle.promises.specs.Between.{Between, Amid}
 use Rattle.promises.specs.Steps.{happened_amid}
 use Rattle.promises.specs.EndingSteps.{to_start, placings, all_started}

@@ -1,0 +1,3 @@
+-- The theorems on how a run ends.
+pub mod RunEnd
+pub mod FourthRun
