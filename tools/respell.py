@@ -19,7 +19,7 @@ SNAKE_LEMMAS = "goes_on held_one in_order in_use least_under left_over plus_one 
 SNAKE = set(SNAKE_LEMMAS.split())
 APART = {n: n.replace("-", "_") + "_lem" for n in (LEMMAS + " " + SNAKE_LEMMAS).split()}
 
-SIGN = re.compile(r"^(?:abbrev |unfoldable )?(?:pub )?(?:abbrev |unfoldable )?(?:data |record )?([^\s:(){}.]+)(?: *[({][^\n]*)? :(?= |$)", re.M)
+SIGN = re.compile(r"^[ \t]*(?:abbrev |unfoldable )?(?:pub )?(?:abbrev |unfoldable )?(?:data |record )?([^\s:(){}.]+)(?: *[({][^\n]*)? :(?= |$)", re.M)
 FIELD = re.compile(r"^[ \t]+pub ([^\s:(){}.]+) :(?= |$)", re.M)
 TOKEN = re.compile(r'[^\s(){}.;,@"«»`\[\]|]+')
 
@@ -98,7 +98,8 @@ def main(argv):
     dry = "--dry" in argv
     own = set(os.listdir("crates"))
     t, fields = table("crates")
-    t = {old: new for old, new in t.items()}
+    # a variable that a module binds, beside left_after
+    t["freeAfter"] = "free_after"
     for new, olds in sorted(told_apart(t).items()):
         print("together:", new, sorted(olds))
     t = {old: new for old, new in t.items() if old != new}

@@ -9,7 +9,7 @@ use Rattle.model.specs.declared.job.JobState.TheVariants.{Waiting, Running}
 use Rattle.model.specs.declared.setting.Setting.{Setting}
 use Rattle.std.specs.Float.Ieee.{eq, of_bits}
 use Rattle.laws.specs.Lists.{pad}
-use Rattle.laws.specs.Sums.{sumOver}
+use Rattle.laws.specs.Sums.{sum_over}
 use Rattle.laws.specs.Search.{those, first}
 use Rattle.laws.specs.Sort.{sort, insert}
 use Rattle.mig.specs.Owner.{freed}
@@ -100,5 +100,5 @@ expected =
 
 pub examples : results ≡ expected
 unfolding candidates candidates_by_number those candidate sort insert preempted made shortest first freed_all evicted_all freed placeable first_cause
-    within_quota usage sumOver charge_to charge_of holding resource_cause why_not_here why_not eligibles eligible eq of_bits pad
+    within_quota usage sum_over charge_to charge_of holding resource_cause why_not_here why_not eligibles eligible eq of_bits pad
 examples = refl

@@ -61,8 +61,8 @@ ordered_take before (suc n) (x ∷ l) h = (all_take (λ y. before x y ≡ true) 
 
 module _ (nodes groups l : List ℕ) (per : ℕ) where
   -- x goes before y: without a penalty before one with it, else by number
-  abbrev pub nodeBefore : ℕ → ℕ → Bool
-  nodeBefore x y = pick (parted_on nodes groups l per x) (parted_on nodes groups l per y && ltb x y) (parted_on nodes groups l per y || ltb x y)
+  abbrev pub node_before : ℕ → ℕ → Bool
+  node_before x y = pick (parted_on nodes groups l per x) (parted_on nodes groups l per y && ltb x y) (parted_on nodes groups l per y || ltb x y)
 
   whole_means : (k : ℕ) → gang_node nodes groups l per false k ≡ true → (per ≤ count_of nodes l k) × (parted_on nodes groups l per k ≡ false)
   unfolding gang_node
@@ -133,15 +133,15 @@ module _ (nodes groups l : List ℕ) (per : ℕ) where
       length-append (whole_nodes nodes groups l per) (parted_nodes nodes groups l per) ∙ those_halves (enough_on nodes l per) (parted_on nodes groups l per) 32 0
 
   -- those without a penalty first, then by number
-  pub order_ordered : Ordered nodeBefore (gang_order nodes groups l per)
+  pub order_ordered : Ordered node_before (gang_order nodes groups l per)
   unfolding gang_order
   order_ordered =
       ordered_append
-      nodeBefore
+      node_before
       (whole_nodes nodes groups l per)
       (parted_nodes nodes groups l per)
       (ordered_rising
-      nodeBefore
+      node_before
       (λ k. (k < 32) × (per ≤ count_of nodes l k) × (parted_on nodes groups l per k ≡ false))
       (λ x y a b h. rw (a.2, b.2) (lt-ltb x y h))
       0
@@ -149,7 +149,7 @@ module _ (nodes groups l : List ℕ) (per : ℕ) where
       (those_rising (gang_node nodes groups l per false) 32 0)
       wholes)
       (ordered_rising
-      nodeBefore
+      node_before
       (λ k. (k < 32) × (per ≤ count_of nodes l k) × (parted_on nodes groups l per k ≡ true))
       (λ x y a b h. rw (a.2, b.2) (lt-ltb x y h))
       0
@@ -158,20 +158,20 @@ module _ (nodes groups l : List ℕ) (per : ℕ) where
       parts)
       (all_weaken
       (λ k. (k < 32) × (per ≤ count_of nodes l k) × (parted_on nodes groups l per k ≡ false))
-      (λ x. All (λ y. nodeBefore x y ≡ true) (parted_nodes nodes groups l per))
+      (λ x. All (λ y. node_before x y ≡ true) (parted_nodes nodes groups l per))
       (whole_nodes nodes groups l per)
       (λ x a. all_weaken
       (λ k. (k < 32) × (per ≤ count_of nodes l k) × (parted_on nodes groups l per k ≡ true))
-      (λ y. nodeBefore x y ≡ true)
+      (λ y. node_before x y ≡ true)
       (parted_nodes nodes groups l per)
       (λ y b. rw (a.2, b.2))
       parts)
       wholes)
 
   -- the nodes taken are in that order too
-  pub nodes_ordered : (g : ℕ) → Ordered nodeBefore (gang_nodes nodes groups l per g)
+  pub nodes_ordered : (g : ℕ) → Ordered node_before (gang_nodes nodes groups l per g)
   unfolding gang_nodes
-  nodes_ordered g = ordered_take nodeBefore g (gang_order nodes groups l per) order_ordered
+  nodes_ordered g = ordered_take node_before g (gang_order nodes groups l per) order_ordered
 
   -- and have enough each
   pub nodes_each : (g : ℕ) → All (λ k. (k < 32) × (per ≤ count_of nodes l k)) (gang_nodes nodes groups l per g)

@@ -11,21 +11,21 @@ use Rattle.laws.specs.Tests.{split, never_both, and_both}
 use Rattle.laws.specs.Lists.{Apart, Distinct, all_weaken, all_every, distinct_take, distinct_append}
 use Rattle.laws.specs.Search.{those_distinct, those_each}
 use Rattle.laws.specs.Sort.{only}
-use Rattle.laws.specs.Sums.{sumOver, bit, sum_none, sum_same, sum_add}
+use Rattle.laws.specs.Sums.{sum_over, bit, sum_none, sum_same, sum_add}
 use Rattle.eligible.specs.Chosen.{keyed, with_key, count_of}
 use Rattle.eligible.specs.More.{only_length}
 use Rattle.choice.specs.Share.{share_group, parted, share}
 use Rattle.choice.specs.Gang.{enough_on, parted_on, share_on, gang_node, whole_nodes, parted_nodes, gang_order, gang_nodes, shares}
 
 -- of different keys one number has at most one
-one_key : (a : ℕ) (ks : List ℕ) → Distinct ks → sumOver (λ k. bit (eqb a k)) ks ≤ 1
-unfolding sumOver
+one_key : (a : ℕ) (ks : List ℕ) → Distinct ks → sum_over (λ k. bit (eqb a k)) ks ≤ 1
+unfolding sum_over
 one_key a [] h = omega arith
 one_key a (k ∷ ks) h =
     split
     (eqb a k)
     (λ e. let s : a ≡ k = eqb-true a k e in
-    let z : sumOver (λ k. bit (eqb a k)) ks ≡ 0 =
+    let z : sum_over (λ k. bit (eqb a k)) ks ≡ 0 =
     sum_none (λ k. bit (eqb a k)) ks (all_weaken (λ j. k ≡ j → ⊥) (λ j. bit (eqb a j) ≡ 0) ks (λ j n. rw (ne_eqb a j (λ t. n (sym s ∙ t)))) h.0) in
     rw e (omega arith))
     (λ e. rw e (omega (arith, one_key a ks h.1)))
@@ -40,7 +40,7 @@ unfolding count_of with_key only
 count_nil keys k = refl
 
 -- different keys are counted at most as often as the list is long
-pub counts_apart : (keys ks l : List ℕ) → Distinct ks → sumOver (count_of keys l) ks ≤ length l
+pub counts_apart : (keys ks l : List ℕ) → Distinct ks → sum_over (count_of keys l) ks ≤ length l
 counts_apart keys ks [] h =
     omega (arith, sum_none (count_of keys []) ks (all_every (λ k. count_of keys [] k ≡ 0) ks (λ k. count_nil keys k)))
 counts_apart keys ks (x ∷ l) h =
@@ -67,8 +67,8 @@ module _ (nodes groups l : List ℕ) (per : ℕ) where
   unfolding count_of
   share_here k = share_most groups (with_key nodes k l) per
 
-  shares_sum : (ks : List ℕ) → length (shares nodes groups l per ks) ≤ sumOver (count_of nodes l) ks
-  unfolding shares sumOver
+  shares_sum : (ks : List ℕ) → length (shares nodes groups l per ks) ≤ sum_over (count_of nodes l) ks
+  unfolding shares sum_over
   shares_sum [] = omega arith
   shares_sum (k ∷ ks) =
       omega (arith, length-append (share_on nodes groups l per k) (shares nodes groups l per ks), share_here k, shares_sum ks)

@@ -1,7 +1,7 @@
 -- Which jobs hold GPUs, and how much of its quota a tenant uses.
 use Rattle.std.specs.Prelude.{◌≡◌, Bool, true, false, ◌&&◌, ◌||◌, List, ℕ, eqb, take}
 use Rattle.laws.specs.Choice.{pick}
-use Rattle.laws.specs.Sums.{sumOver}
+use Rattle.laws.specs.Sums.{sum_over}
 use Rattle.model.specs.declared.job.JobState.{JobState}
 use Rattle.model.specs.declared.job.JobState.TheVariants.{Pending, Waiting, Placed, Running, Finished, Failed}
 use Rattle.model.specs.declared.job.Job.{Job}
@@ -42,7 +42,7 @@ charge_to tenant j = pick (holding j && eqb j.ask.tenant tenant) (charge_of j) 0
 
 -- A tenant's usage: the charges of its jobs that hold something.
 unfoldable pub usage : List Job → ℕ → ℕ → ℕ
-usage jobs n tenant = sumOver (charge_to tenant) (take n jobs)
+usage jobs n tenant = sum_over (charge_to tenant) (take n jobs)
 
 -- ---- the two cases of a charge
 

@@ -4,7 +4,7 @@ use Rattle.std.proofs.Common.{sym, arith, length-take, get_or-take, eq-eqb, ne_e
 use Rattle.std.proofs.Math.Seq.{take-set-lt}
 use Rattle.std.proofs.lemmas.List.{take-set-le}
 use Rattle.laws.specs.Tests.{and_left, and_right, both_and}
-use Rattle.laws.specs.Sums.{sumOver, sum_set}
+use Rattle.laws.specs.Sums.{sum_over, sum_set}
 use Rattle.model.specs.Job.{no_job}
 use Rattle.model.specs.declared.job.Job.{Job}
 use Rattle.cluster.specs.Usage.{holding, charge_of, charge_to, usage, charge_held, charge_free}
@@ -29,7 +29,7 @@ pub usage_set : (jobs : List Job) (n tenant i : ℕ) (j : Job) → i < n → i <
 unfolding usage
 usage_set jobs n tenant i j h k =
     let l : i < length (take n jobs) = omega (arith, length-take n jobs) in
-    let s : sumOver (charge_to tenant) (set (take n jobs) i j) + charge_to tenant (get_or (take n jobs) i no_job) ≡ sumOver (charge_to tenant)
+    let s : sum_over (charge_to tenant) (set (take n jobs) i j) + charge_to tenant (get_or (take n jobs) i no_job) ≡ sum_over (charge_to tenant)
     (take n jobs) + charge_to tenant j = sum_set (charge_to tenant) (take n jobs) i j no_job l in
     rw (take-set-lt n jobs i j h, ← get_or-take n jobs i no_job h) s
 

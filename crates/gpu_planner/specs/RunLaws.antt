@@ -66,22 +66,22 @@ module _ (p : Plan) (steps count : ℕ) (ws out : List ℕ) (s : Stepped) (whole
 -- the same of a step over lent tables, which hold q after it
 module _ (p : Plan) (steps count : ℕ) (ws out : List ℕ) (a : Taken) (q : Plan) (whole : Run) (told : Left p (lent (behind count) ws) a q out)
     (more : steps < turns) (inv : run_to (turns - steps) p steps count ws ≡ whole) where
-  abbrev wholeStep : Stepped
-  wholeStep = stepped p (length (lent (behind count) ws))
+  abbrev whole_step : Stepped
+  whole_step = stepped p (length (lent (behind count) ws))
 
   pub lent_turn_is : goes_on a steps count (back (behind count) ws out)
-      (λ told. run_to (turns - (steps + 1)) wholeStep.plan (steps + 1) told (back (behind count) ws out)) ≡ whole
-  lent_turn_is = rw told.0 (turn_is p steps count ws out wholeStep whole refl told.1.1 more inv)
+      (λ told. run_to (turns - (steps + 1)) whole_step.plan (steps + 1) told (back (behind count) ws out)) ≡ whole
+  lent_turn_is = rw told.0 (turn_is p steps count ws out whole_step whole refl told.1.1 more inv)
 
   pub lent_turn_on : (n m : ℕ) → a ≡ Decisions n → m ≡ min n most → length (back (behind count) ws out) ≡ length ws → behind count ≤ length ws →
       (behind (count + m) ≤ length (back (behind count) ws out)) × (run_to (turns - (steps + 1)) q (steps + 1) (count + m) (back (behind count) ws out) ≡ whole)
   lent_turn_on n m e f l b =
-      let s : wholeStep.answer ≡ Decisions n = sym told.0 ∙ e in
-      let t : is_taken wholeStep.answer ≡ true = rw s in
+      let s : whole_step.answer ≡ Decisions n = sym told.0 ∙ e in
+      let t : is_taken whole_step.answer ≡ true = rw s in
       let o : (behind (count + m) ≤ length (back (behind count) ws out)) ×
-      (run_to (turns - (steps + 1)) wholeStep.plan (steps + 1) (count + m) (back (behind count) ws out) ≡ whole) =
-      turn_on_lem p steps count ws out wholeStep whole refl told.1.1 more inv n m s f l b in
-      let k : q ≡ wholeStep.plan = told.1.0 ∙ step_taken p (lent (behind count) ws) t in
+      (run_to (turns - (steps + 1)) whole_step.plan (steps + 1) (count + m) (back (behind count) ws out) ≡ whole) =
+      turn_on_lem p steps count ws out whole_step whole refl told.1.1 more inv n m s f l b in
+      let k : q ≡ whole_step.plan = told.1.0 ∙ step_taken p (lent (behind count) ws) t in
       (o.0, rw k o.1)
 
 -- what a step leaves in the tables has no event from the next top on

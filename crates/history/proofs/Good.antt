@@ -9,7 +9,7 @@ use Rattle.std.proofs.Math.Seq.{take-set-lt}
 use Rattle.laws.specs.Choice.{pick}
 use Rattle.laws.specs.Tests.{le_or_lt}
 use Rattle.laws.specs.Lists.{All, all_snoc, set_at}
-use Rattle.laws.specs.Sums.{sumOver, bit, sum_set_le}
+use Rattle.laws.specs.Sums.{sum_over, bit, sum_set_le}
 use Rattle.laws.specs.Tables.{take_least}
 use Rattle.model.specs.Job.{no_job}
 use Rattle.model.specs.declared.job.Job.{Job}
@@ -47,9 +47,9 @@ module _ (s : Setting) (jobs₀ jobs : List Job) (h : List Decision) (size : len
       let n : ℕ = min s.jobs 128 in
       let a : sum_to (held_one jobs₀ tenant h) n ≤ sum_to (λ k. charge_to tenant (job_at jobs k)) n =
       sum_below (held_one jobs₀ tenant h) (λ k. charge_to tenant (job_at jobs k)) n (held_below tenant) in
-      let b : sum_to (λ k. charge_to tenant (job_at jobs k)) n ≡ sumOver (charge_to tenant) (take n jobs) = sum_front (charge_to tenant) jobs n no_job (omega arith) in
+      let b : sum_to (λ k. charge_to tenant (job_at jobs k)) n ≡ sum_over (charge_to tenant) (take n jobs) = sum_front (charge_to tenant) jobs n no_job (omega arith) in
       let c : take n jobs ≡ take s.jobs jobs = take_least s.jobs 128 jobs (omega arith) in
-      omega (arith, a, b, ap (sumOver (charge_to tenant)) c)
+      omega (arith, a, b, ap (sum_over (charge_to tenant)) c)
 
 -- what is promised now follows
 pub good_now : (s : Setting) (jobs₀ jobs : List Job) (h : List Decision) → length jobs ≡ 128 → ((k : ℕ) → (job_at jobs k).ask ≡ (job_at jobs₀ k).ask) →

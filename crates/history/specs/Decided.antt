@@ -2,7 +2,7 @@
 use Rattle.std.specs.Prelude.{◌≡◌, refl, List, [], ◌∷◌, ℕ, ◌+◌, ◌*◌, ◌≤◌, ◌<◌, ◌%◌, ◌^◌, length, take, set, Float}
 use Rattle.std.proofs.Common.{ap, ◌∙◌, arith, length-set, length-take, length-append}
 use Rattle.laws.specs.Lists.{All, Distinct, all_weaken, all_of, all_take}
-use Rattle.laws.specs.Sums.{sumOver, sum_set, sum_kept, sum_most, sum_first}
+use Rattle.laws.specs.Sums.{sum_over, sum_set, sum_kept, sum_most, sum_first}
 use Rattle.model.specs.Job.{no_ask, no_job, new_job}
 use Rattle.model.specs.declared.job.Ask.{Ask}
 use Rattle.model.specs.declared.job.Job.{Job}
@@ -98,12 +98,12 @@ decided_none = decided_new no_ask
 
 -- The decisions that were told of all jobs.
 abbrev pub all_decided : List Job → ℕ
-all_decided jobs = sumOver decided_of jobs
+all_decided jobs = sum_over decided_of jobs
 
 -- nine for each loaded job at most
 pub all_decided_few : (n : ℕ) (jobs : List Job) → Rest n jobs → ((k : ℕ) → JobOk (job_at jobs k)) → all_decided jobs ≤ 9 * n
 all_decided_few n jobs r o =
-    let e : all_decided jobs ≡ sumOver decided_of (take n jobs) = sum_first decided_of n jobs no_job (λ k h. ap decided_of (r k h) ∙ decided_none) in
+    let e : all_decided jobs ≡ sum_over decided_of (take n jobs) = sum_first decided_of n jobs no_job (λ k h. ap decided_of (r k h) ∙ decided_none) in
     let a : All (λ j. decided_of j ≤ 9) (take n jobs) =
     all_take (λ j. decided_of j ≤ 9) n jobs (all_of (λ j. decided_of j ≤ 9) jobs no_job (λ i b. decided_few (job_at jobs i) (o i))) in
     omega (arith, e, sum_most decided_of 9 (take n jobs) a, length-take n jobs)

@@ -7,7 +7,7 @@ use Rattle.laws.specs.Tests.{split, never_both, le_or_lt}
 use Rattle.laws.specs.Tables.{past_read}
 use Rattle.laws.specs.Lists.{All, all_of}
 use Rattle.laws.specs.Search.{first, first_has, first_before}
-use Rattle.laws.specs.Sums.{sumOver, bit, sum_set, sum_set_le}
+use Rattle.laws.specs.Sums.{sum_over, bit, sum_set, sum_set_le}
 use Rattle.model.specs.Event.{empty_event}
 use Rattle.model.specs.declared.event.Event.{Event}
 use Rattle.model.specs.declared.event.EventKind.{EventKind}
@@ -19,7 +19,7 @@ used_one e = bit (used e)
 
 -- How many entries hold an event.
 abbrev pub in_use : List Event → ℕ
-in_use events = sumOver used_one events
+in_use events = sum_over used_one events
 
 abbrev pub is_arrival : EventKind → Bool
 is_arrival Empty = false
@@ -32,13 +32,13 @@ arrival_one k e = bit (is_arrival e.kind && eqb e.job k)
 
 -- How many arrivals of the job are still ahead.
 abbrev pub arriving : ℕ → List Event → ℕ
-arriving k events = sumOver (arrival_one k) events
+arriving k events = sum_over (arrival_one k) events
 
 -- ---- a free entry
 
 -- where each weighs one the sum is the length
-pub sum_ones : {A : Type 0} (g : A → ℕ) (l : List A) → All (λ x. g x ≡ 1) l → sumOver g l ≡ length l
-unfolding sumOver
+pub sum_ones : {A : Type 0} (g : A → ℕ) (l : List A) → All (λ x. g x ≡ 1) l → sum_over g l ≡ length l
+unfolding sum_over
 sum_ones g [] h = refl
 sum_ones g (x ∷ l) h = omega (arith, h.0, sum_ones g l h.1)
 
@@ -85,7 +85,7 @@ module _ (events : List Event) (size : length events ≡ 1152) where
   added_use e u h =
       let i : ℕ = first_free events in
       let b : i < 1152 = free_entry h in
-      let s : sumOver used_one (set events i e) + used_one (event_at events i) ≡ sumOver used_one events + used_one e = sum_set used_one events i e empty_event (omega arith) in
+      let s : sum_over used_one (set events i e) + used_one (event_at events i) ≡ sum_over used_one events + used_one e = sum_set used_one events i e empty_event (omega arith) in
       let z : used_one (event_at events i) ≡ 0 = (free_weighs 0 (event_at events i) (entry_free b)).0 in
       let o : used_one e ≡ 1 = rw u in
       omega (arith, s, z, o)
@@ -99,7 +99,7 @@ module _ (events : List Event) (size : length events ≡ 1152) where
   pub taken_use : (i : ℕ) → i < 1152 → used (event_at events i) ≡ true → in_use (taken events i) + 1 ≡ in_use events
   unfolding taken
   taken_use i b u =
-      let s : sumOver used_one (set events i empty_event) + used_one (event_at events i) ≡ sumOver used_one events + used_one empty_event =
+      let s : sum_over used_one (set events i empty_event) + used_one (event_at events i) ≡ sum_over used_one events + used_one empty_event =
       sum_set used_one events i empty_event empty_event (omega arith) in
       let o : used_one (event_at events i) ≡ 1 = rw u in
       let z : used_one empty_event ≡ 0 = (empty_weighs 0).0 in
@@ -109,7 +109,7 @@ module _ (events : List Event) (size : length events ≡ 1152) where
   pub taken_arriving : (i k : ℕ) → i < 1152 → arriving k (taken events i) + arrival_one k (event_at events i) ≡ arriving k events
   unfolding taken
   taken_arriving i k b =
-      let s : sumOver (arrival_one k) (set events i empty_event) + arrival_one k (event_at events i) ≡ sumOver (arrival_one k) events + arrival_one k
+      let s : sum_over (arrival_one k) (set events i empty_event) + arrival_one k (event_at events i) ≡ sum_over (arrival_one k) events + arrival_one k
       empty_event = sum_set (arrival_one k) events i empty_event empty_event (omega arith) in
       omega (arith, s, (empty_weighs k).1)
 

@@ -2,7 +2,7 @@
 use Rattle.std.specs.Prelude.{◌≡◌, refl, Bool, true, false, List, [], ◌∷◌, ℕ, take}
 use Rattle.std.specs.Float.Ieee.{eq, of_bits}
 use Rattle.laws.specs.Lists.{pad}
-use Rattle.laws.specs.Sums.{sumOver}
+use Rattle.laws.specs.Sums.{sum_over}
 use Rattle.laws.specs.Search.{those, first}
 use Rattle.laws.specs.Sort.{sort, insert}
 use Rattle.model.specs.Number.{zero·0, one·0}
@@ -153,5 +153,5 @@ expected =
 
 pub table : results ≡ expected
 unfolding candidates candidates_by_number those candidate sort insert preempted made shortest first freed_all evicted_all freed placeable first_cause
-    within_quota usage sumOver charge_to charge_of holding resource_cause why_not_here why_not why_not_gang eligibles eligible eq of_bits pad
+    within_quota usage sum_over charge_to charge_of holding resource_cause why_not_here why_not why_not_gang eligibles eligible eq of_bits pad
 table = refl

@@ -4,7 +4,7 @@ use Rattle.std.proofs.Common.{ap, ◌∙◌, ⊎_elim, arith, length-take, get_o
 use Rattle.laws.specs.Choice.{pick}
 use Rattle.laws.specs.Tests.{split, le_or_lt}
 use Rattle.laws.specs.Lists.{All, all_of, all_take}
-use Rattle.laws.specs.Sums.{sumOver, bit, sum_set, sum_most, sum_first}
+use Rattle.laws.specs.Sums.{sum_over, bit, sum_set, sum_most, sum_first}
 use Rattle.model.specs.Job.{no_job, new_job}
 use Rattle.model.specs.declared.job.Job.{Job}
 use Rattle.model.specs.declared.job.JobState.TheVariants.{Pending, Waiting, Placed, Running}
@@ -63,7 +63,7 @@ owed_none = refl
 
 -- What all jobs have queued beyond their arrivals.
 abbrev pub all_events : List Job → ℕ
-all_events jobs = sumOver events_of jobs
+all_events jobs = sum_over events_of jobs
 
 -- behind the n loaded jobs there is none
 abbrev pub Rest : ℕ → List Job → Type 0
@@ -72,7 +72,7 @@ Rest n jobs = (k : ℕ) → n ≤ k → job_at jobs k ≡ no_job
 -- eight for each loaded job at most
 pub all_few : (n : ℕ) (jobs : List Job) → Rest n jobs → ((k : ℕ) → JobOk (job_at jobs k)) → all_events jobs ≤ 8 * n
 all_few n jobs r o =
-    let e : all_events jobs ≡ sumOver events_of (take n jobs) = sum_first events_of n jobs no_job (λ k h. ap events_of (r k h) ∙ owed_none) in
+    let e : all_events jobs ≡ sum_over events_of (take n jobs) = sum_first events_of n jobs no_job (λ k h. ap events_of (r k h) ∙ owed_none) in
     let a : All (λ j. events_of j ≤ 8) (take n jobs) =
     all_take (λ j. events_of j ≤ 8) n jobs (all_of (λ j. events_of j ≤ 8) jobs no_job (λ i b. events_few (job_at jobs i) (o i))) in
     omega (arith, e, sum_most events_of 8 (take n jobs) a, length-take n jobs)

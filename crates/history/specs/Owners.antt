@@ -2,7 +2,7 @@
 use Rattle.std.specs.Prelude.{◌≡◌, List, ℕ, ◌+◌, ◌≤◌, ◌<◌, eqb, length, get_or}
 use Rattle.laws.specs.Choice.{pick}
 use Rattle.laws.specs.Lists.{All}
-use Rattle.laws.specs.Sums.{sumOver}
+use Rattle.laws.specs.Sums.{sum_over}
 use Rattle.model.specs.Sizes as Sizes
 use Rattle.model.specs.Gpu.{no_gpu}
 use Rattle.model.specs.declared.gpu.Gpu.{Gpu}
@@ -24,7 +24,7 @@ nothing = record { gpus = 0; slices = 0 }
 
 -- What an owner holds of the table. An owner is the job's number plus 1.
 unfoldable pub holds : ℕ → List Gpu → Share
-holds owner gpus = record { gpus = sumOver (λ g. is_of owner g.owner) gpus; slices = sumOver (owned_slices owner) gpus }
+holds owner gpus = record { gpus = sum_over (λ g. is_of owner g.owner) gpus; slices = sum_over (owned_slices owner) gpus }
 
 -- What a job asks for: GPUs, or slices of a MIG job.
 abbrev pub wanted : Ask → Share

@@ -13,7 +13,7 @@ use Rattle.laws.specs.Choice.{pick_either, pick_cases}
 use Rattle.laws.specs.Tests.{fails}
 use Rattle.laws.specs.Lists.{All, Distinct, all_weaken, all_both, all_at, all_get_d, all_of, all_set, set_kept}
 use Rattle.laws.specs.Search.{has, has_all}
-use Rattle.laws.specs.Sums.{bit, sumOver, sum_set, sum_kept, sum_alike}
+use Rattle.laws.specs.Sums.{bit, sum_over, sum_set, sum_kept, sum_alike}
 use Rattle.model.specs.Gpu.{no_gpu}
 use Rattle.model.specs.declared.gpu.Gpu.{Gpu}
 use Rattle.mig.specs.Owner.{idle}
@@ -57,13 +57,13 @@ Free gpus i = (i < length gpus) × ((get_or gpus i no_gpu).owner ≡ 0)
 module _ (owner : ℕ) where
   -- each counts once for its new owner
   given_sum : (other : ℕ) (gpus : List Gpu) (ids : List ℕ) → 0 < other → Distinct ids → All (Free gpus) ids →
-      sumOver (λ g. is_of other g.owner) (given owner gpus ids) ≡ sumOver (λ g. is_of other g.owner) gpus + length ids * is_of other owner
+      sum_over (λ g. is_of other g.owner) (given owner gpus ids) ≡ sum_over (λ g. is_of other g.owner) gpus + length ids * is_of other owner
   unfolding given
   given_sum other gpus [] o d h = omega arith
   given_sum other gpus (i ∷ ids) o d h =
       let new : Gpu = with_owner owner (get_or gpus i no_gpu) in
       let z : is_of other (get_or gpus i no_gpu).owner ≡ 0 = rw (h.0.1, ne_eqb 0 other (λ e. omega arith)) in
-      let a : sumOver (λ g. is_of other g.owner) (set gpus i new) + is_of other (get_or gpus i no_gpu).owner ≡ sumOver (λ g. is_of other g.owner)
+      let a : sum_over (λ g. is_of other g.owner) (set gpus i new) + is_of other (get_or gpus i no_gpu).owner ≡ sum_over (λ g. is_of other g.owner)
       gpus + is_of other owner = sum_set (λ g. is_of other g.owner) gpus i new no_gpu h.0.0 in
       let m : suc (length ids) * is_of other owner ≡ length ids * is_of other owner + is_of other owner = suc-mul (length ids) (is_of other owner) in
       let rest : All (Free (set gpus i new)) ids =
@@ -76,7 +76,7 @@ module _ (owner : ℕ) where
       omega (arith, a, z, m, given_sum other (set gpus i new) ids o d.1 rest)
 
   -- slices stay
-  given_slices_lem : (other : ℕ) (gpus : List Gpu) (ids : List ℕ) → sumOver (owned_slices other) (given owner gpus ids) ≡ sumOver (owned_slices other) gpus
+  given_slices_lem : (other : ℕ) (gpus : List Gpu) (ids : List ℕ) → sum_over (owned_slices other) (given owner gpus ids) ≡ sum_over (owned_slices other) gpus
   unfolding given owned_slices
   given_slices_lem other gpus [] = refl
   given_slices_lem other gpus (i ∷ ids) =
@@ -89,7 +89,7 @@ module _ (owner : ℕ) where
   unfolding holds
   given_own gpus ids o d h =
       let e : is_of owner owner ≡ 1 = rw (eq-eqb owner owner refl) in
-      let s : sumOver (λ g. is_of owner g.owner) (given owner gpus ids) ≡ sumOver (λ g. is_of owner g.owner) gpus + length ids * 1 =
+      let s : sum_over (λ g. is_of owner g.owner) (given owner gpus ids) ≡ sum_over (λ g. is_of owner g.owner) gpus + length ids * 1 =
       rw e at (given_sum owner gpus ids o d h) in
       share_same _ _ _ _ (omega arith) (given_slices_lem owner gpus ids)
 
@@ -99,7 +99,7 @@ module _ (owner : ℕ) where
   unfolding holds
   given_others other gpus ids o n d h =
       let e : is_of other owner ≡ 0 = rw (ne_eqb owner other (λ z. n (sym z))) in
-      let s : sumOver (λ g. is_of other g.owner) (given owner gpus ids) ≡ sumOver (λ g. is_of other g.owner) gpus + length ids * 0 =
+      let s : sum_over (λ g. is_of other g.owner) (given owner gpus ids) ≡ sum_over (λ g. is_of other g.owner) gpus + length ids * 0 =
       rw e at (given_sum other gpus ids o d h) in
       share_same _ _ _ _ (omega arith) (given_slices_lem other gpus ids)
 
@@ -230,12 +230,12 @@ module _ (gpus : List Gpu) (n profile most want owner : ℕ) (table : length gpu
   after_sized = allocated_sized gpus n profile most want owner before_sized
 
   -- whole GPUs stay whose they are
-  whole_kept : (other : ℕ) → sumOver (λ g. is_of other g.owner) after ≡ sumOver (λ g. is_of other g.owner) gpus
+  whole_kept : (other : ℕ) → sum_over (λ g. is_of other g.owner) after ≡ sum_over (λ g. is_of other g.owner) gpus
   whole_kept other =
       sum_alike (λ g. is_of other g.owner) (λ g. is_of other g.owner) after gpus no_gpu no_gpu same
       (λ k b. ap (is_of other) (allocated_owner gpus n profile most want owner table before_sized k))
 
-  others_kept : (other : ℕ) → 0 < other → (other ≡ owner → ⊥) → sumOver (owned_slices other) after ≡ sumOver (owned_slices other) gpus
+  others_kept : (other : ℕ) → 0 < other → (other ≡ owner → ⊥) → sum_over (owned_slices other) after ≡ sum_over (owned_slices other) gpus
   unfolding owned_slices
   others_kept other o d =
       sum_alike (owned_slices other) (owned_slices other) after gpus no_gpu no_gpu same

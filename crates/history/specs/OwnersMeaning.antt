@@ -6,7 +6,7 @@ use Rattle.std.proofs.Math.Logic.{⊎_elim}
 use Rattle.std.proofs.Math.ListN.{get_or}
 use Rattle.laws.specs.Tests.{split, le_or_lt}
 use Rattle.laws.specs.Tables.{past_read}
-use Rattle.laws.specs.Sums.{sumOver, sum_at}
+use Rattle.laws.specs.Sums.{sum_over, sum_at}
 use Rattle.model.specs.Gpu.{no_gpu}
 use Rattle.model.specs.declared.gpu.Gpu.{Gpu}
 use Rattle.model.specs.declared.job.Job.{Job}
@@ -50,7 +50,7 @@ module _ (gpus : List Gpu) (k i : ℕ) where
       ⊎_elim
       (λ past. let z : 0 ≡ get_or (get_or gpus i no_gpu).owners n 0 = past_read (get_or gpus i no_gpu).owners n 0 past in absurd (omega arith))
       (λ inside.
-      let some : is_of (k + 1) (get_or (get_or gpus i no_gpu).owners n 0) ≤ sumOver (is_of (k + 1)) (get_or gpus i no_gpu).owners =
+      let some : is_of (k + 1) (get_or (get_or gpus i no_gpu).owners n 0) ≤ sum_over (is_of (k + 1)) (get_or gpus i no_gpu).owners =
       sum_at (is_of (k + 1)) (get_or gpus i no_gpu).owners n 0 inside in
       ⊎_elim
       (λ past. let z : get_or (get_or gpus i no_gpu).owners n 0 ≡ 0 = rw (← past_read gpus i no_gpu past) (no_slice n) in absurd (omega arith))

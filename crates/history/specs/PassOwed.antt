@@ -6,7 +6,7 @@ use mathlib.Core.List.{List, [], ◌∷◌, ◌++◌}
 use native.Mathlib.Omega.{arith}
 use Rattle.std.proofs.Math.ListN.{length, set, length-set}
 use Rattle.laws.specs.Lists.{All, Apart, Distinct, all_weaken, all_both, set_kept}
-use Rattle.laws.specs.Sums.{sumOver, bit, sum_append}
+use Rattle.laws.specs.Sums.{sum_over, bit, sum_append}
 use Rattle.model.specs.Job.{no_job}
 use Rattle.model.specs.declared.job.Ask.{Ask}
 use Rattle.model.specs.declared.job.Job.{Job}
@@ -79,8 +79,8 @@ asked_set jobs₀ jobs k j e a i = set_kept jobs k j no_job (λ x. x.ask) e i �
 
 -- jobs leave one after the other: each that has timeouts owes one
 owed_leave : (n : ℕ) (clock : Float) (jobs₀ jobs : List Job) (vs : List ℕ) → length jobs ≡ 128 → Asked jobs₀ jobs → Rest n jobs →
-    All (Runs jobs) vs → Distinct vs → (all_events (evicted_all clock jobs vs) ≡ all_events jobs + sumOver (timed_one jobs₀) vs) × Rest n (evicted_all clock jobs vs)
-unfolding evicted_all sumOver
+    All (Runs jobs) vs → Distinct vs → (all_events (evicted_all clock jobs vs) ≡ all_events jobs + sum_over (timed_one jobs₀) vs) × Rest n (evicted_all clock jobs vs)
+unfolding evicted_all sum_over
 owed_leave n clock jobs₀ jobs [] l a r m d = (omega arith, r)
 owed_leave n clock jobs₀ jobs (v ∷ vs) l a r m d =
     let j : Job = Life.evicted (job_at jobs v) clock in
@@ -89,7 +89,7 @@ owed_leave n clock jobs₀ jobs (v ∷ vs) l a r m d =
     let e : all_events (set jobs v j) ≡ all_events jobs + bit (timed (job_at jobs v).ask) =
     owed_set jobs v (bit (timed (job_at jobs v).ask)) j b (owed_evicted (job_at jobs v) clock m.0.1 m.0.2) in
     let below : v < n = rest_below n v jobs r (arrived_not (job_at jobs v).state (ap came m.0.1)) in
-    let rest : (all_events (evicted_all clock (set jobs v j) vs) ≡ all_events (set jobs v j) + sumOver (timed_one jobs₀) vs) × Rest n (evicted_all clock (set jobs v j) vs) =
+    let rest : (all_events (evicted_all clock (set jobs v j) vs) ≡ all_events (set jobs v j) + sum_over (timed_one jobs₀) vs) × Rest n (evicted_all clock (set jobs v j) vs) =
     owed_leave n clock jobs₀ (set jobs v j) vs (length-set jobs v j ∙ l) (asked_set jobs₀ jobs v j (evicted_ask (job_at jobs v) clock) a)
     (rest_set n v jobs j below r) (runs_other jobs v j vs d.0 m.1) d.1 in
     (omega (arith, rest.0, e, t), rest.1)
@@ -100,7 +100,7 @@ owed_leave n clock jobs₀ jobs (v ∷ vs) l a r m d =
 pub record PassOwed (n base : ℕ) (jobs₀ : List Job) (p : Pass) : Type 0 where
   pub asks : Asked jobs₀ p.jobs
   pub rest : Rest n p.jobs
-  pub owed : all_events p.jobs ≡ base + sumOver (timed_one jobs₀) (victims_of p.line)
+  pub owed : all_events p.jobs ≡ base + sum_over (timed_one jobs₀) (victims_of p.line)
 
 module _ (s : Setting) (clock : Float) (n base : ℕ) (jobs₀ : List Job) where
   place_owed : (p : Pass) (id : ℕ) → Standing p → Looked p id → (allocation s p id (job_at p.jobs id)).placed ≡ true → PassOwed n base jobs₀ p →
@@ -120,16 +120,16 @@ module _ (s : Setting) (clock : Float) (n base : ℕ) (jobs₀ : List Job) where
       PassOwed n base jobs₀ p → PassOwed n base jobs₀ (cleared clock p id vs)
   clear_owed p id vs so l m d g =
       let rs : All (Runs p.jobs) vs = all_weaken (MayLeave s clock p id) (Runs p.jobs) vs (λ v q. (q.0, q.2.runs_now, q.2.few)) m in
-      let x : (all_events (evicted_all clock p.jobs vs) ≡ all_events p.jobs + sumOver (timed_one jobs₀) vs) × Rest n
+      let x : (all_events (evicted_all clock p.jobs vs) ≡ all_events p.jobs + sum_over (timed_one jobs₀) vs) × Rest n
       (evicted_all clock p.jobs vs) = owed_leave n clock jobs₀ p.jobs vs so.jobs g.asks g.rest rs d in
       let b : victims_of (cleared clock p id vs).line ≡ victims_of p.line ++ vs = clear_behind clock p so id vs (may_run s clock p id vs m) d in
-      let f : sumOver (timed_one jobs₀) (victims_of (cleared clock p id vs).line) ≡ sumOver (timed_one jobs₀) (victims_of p.line) + sumOver
-      (timed_one jobs₀) vs = ap (sumOver (timed_one jobs₀)) b ∙ sum_append (timed_one jobs₀) (victims_of p.line) vs in
+      let f : sum_over (timed_one jobs₀) (victims_of (cleared clock p id vs).line) ≡ sum_over (timed_one jobs₀) (victims_of p.line) + sum_over
+      (timed_one jobs₀) vs = ap (sum_over (timed_one jobs₀)) b ∙ sum_append (timed_one jobs₀) (victims_of p.line) vs in
       cleared_owed (cleared clock p id vs) (cleared_jobs clock p id vs) x f
     where
       cleared_owed : (q : Pass) → q.jobs ≡ evicted_all clock p.jobs vs →
-          (all_events (evicted_all clock p.jobs vs) ≡ all_events p.jobs + sumOver (timed_one jobs₀) vs) × Rest n (evicted_all clock p.jobs vs) →
-          sumOver (timed_one jobs₀) (victims_of q.line) ≡ sumOver (timed_one jobs₀) (victims_of p.line) + sumOver (timed_one jobs₀) vs → PassOwed n base jobs₀ q
+          (all_events (evicted_all clock p.jobs vs) ≡ all_events p.jobs + sum_over (timed_one jobs₀) vs) × Rest n (evicted_all clock p.jobs vs) →
+          sum_over (timed_one jobs₀) (victims_of q.line) ≡ sum_over (timed_one jobs₀) (victims_of p.line) + sum_over (timed_one jobs₀) vs → PassOwed n base jobs₀ q
       cleared_owed q e x f =
           record {
             asks = λ k. ap (λ (js : List Job). (job_at js k).ask) e ∙ evicted_all_ask clock p.jobs vs k ∙ g.asks k;

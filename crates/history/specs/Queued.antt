@@ -2,7 +2,7 @@
 use Rattle.std.specs.Prelude.{◌≡◌, refl, true, false, List, [], ◌∷◌, ℕ, ◌+◌, ◌≤◌, ◌<◌, ◌%◌, ◌^◌, length, Float}
 use Rattle.std.proofs.Common.{◌∙◌, arith, length-set}
 use Rattle.laws.specs.Tests.{split}
-use Rattle.laws.specs.Sums.{sumOver, bit}
+use Rattle.laws.specs.Sums.{sum_over, bit}
 use Rattle.model.specs.declared.event.Event.{Event}
 use Rattle.model.specs.declared.event.EventKind.{EventKind}
 use Rattle.model.specs.declared.event.EventKind.TheVariants.{Completion, Timeout}
@@ -71,13 +71,13 @@ timeout_grown k a id j from l b c =
     (λ t. rw t (queued_grown k a _ Timeout id j.timeouts refl refl l (let q : a.next + 1 ≤ 1152 = rw t at b in omega (arith, q)) c))
     (λ f. rw f (grown_none k a c))
 
-pub timeouts_grown : (k : ℕ) (clock : Float) (jobs : List Job) (a : Ahead) (vs : List ℕ) → 1 ≤ k → a.next + sumOver (timed_one jobs) vs ≤ 1152 →
-    Counted k a → Grown k (sumOver (timed_one jobs) vs) a (timeouts_queued clock jobs a vs)
-unfolding timeouts_queued sumOver
+pub timeouts_grown : (k : ℕ) (clock : Float) (jobs : List Job) (a : Ahead) (vs : List ℕ) → 1 ≤ k → a.next + sum_over (timed_one jobs) vs ≤ 1152 →
+    Counted k a → Grown k (sum_over (timed_one jobs) vs) a (timeouts_queued clock jobs a vs)
+unfolding timeouts_queued sum_over
 timeouts_grown k clock jobs a [] l b c = grown_none k a c
 timeouts_grown k clock jobs a (v ∷ vs) l b c =
     let one : Grown k (timed_one jobs v) a (timeout_queued a v (job_at jobs v) clock) = timeout_grown k a v (job_at jobs v) clock l (omega (arith, b)) c in
-    grown_more k (timed_one jobs v) (sumOver (timed_one jobs) vs) a (timeout_queued a v (job_at jobs v) clock) _ one
+    grown_more k (timed_one jobs v) (sum_over (timed_one jobs) vs) a (timeout_queued a v (job_at jobs v) clock) _ one
     (timeouts_grown k clock jobs (timeout_queued a v (job_at jobs v) clock) vs l (omega (arith, b, one.next)) one.counted)
 
 -- ---- the completions of those that start

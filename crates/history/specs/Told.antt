@@ -1,7 +1,7 @@
 -- What a list of decisions tells, read off the decisions alone: who was started and evicted how often, who runs, and what a tenant's running jobs hold.
 use Rattle.std.specs.Prelude.{Bool, true, false, ◌&&◌, List, [], ◌∷◌, ℕ, zero, suc, ◌+◌, eqb, get_or}
 use Rattle.laws.specs.Choice.{pick}
-use Rattle.laws.specs.Sums.{sumOver, bit}
+use Rattle.laws.specs.Sums.{sum_over, bit}
 use Rattle.model.specs.Job.{no_job}
 use Rattle.model.specs.declared.job.Job.{Job}
 use Rattle.decision_log.specs.declared.Kind.{Kind}
@@ -24,7 +24,7 @@ is_started Started = true
 
 -- how many decisions of such a kind name the job
 abbrev pub told_of : (Kind → Bool) → ℕ → List Decision → ℕ
-told_of test k h = sumOver (λ d. bit (test d.kind && eqb d.job k)) h
+told_of test k h = sum_over (λ d. bit (test d.kind && eqb d.job k)) h
 
 -- How often the job was evicted.
 abbrev pub evictions_of : ℕ → List Decision → ℕ

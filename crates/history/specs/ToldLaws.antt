@@ -2,7 +2,7 @@
 use Rattle.std.specs.Prelude.{◌≡◌, refl, Bool, false, ◌&&◌, List, [], ◌∷◌, ◌++◌, ℕ, zero, suc, ◌+◌, ◌≤◌, eqb, length, get_or, take}
 use Rattle.std.proofs.Common.{◌∙◌, arith, take-suc, eq-eqb, ne_eqb}
 use Rattle.laws.specs.Tests.{split, and_right}
-use Rattle.laws.specs.Sums.{sumOver, bit, sum_snoc}
+use Rattle.laws.specs.Sums.{sum_over, bit, sum_snoc}
 use Rattle.decision_log.specs.declared.Kind.{Kind}
 use Rattle.decision_log.specs.declared.Decision.{Decision}
 use Rattle.history.specs.Told.{told_of, says_runs, after_one, runs_from, runs_after, sum_to}
@@ -38,11 +38,11 @@ runs_other k h d e = runs_append k false h d ∙ rw (ne_eqb d.job k e)
 -- ---- sums by number
 
 -- a sum by number is the sum over a table's front
-pub sum_front : {A : Type 0} (g : A → ℕ) (l : List A) (n : ℕ) (d : A) → n ≤ length l → sum_to (λ k. g (get_or l k d)) n ≡ sumOver g (take n l)
-unfolding sum_to sumOver
+pub sum_front : {A : Type 0} (g : A → ℕ) (l : List A) (n : ℕ) (d : A) → n ≤ length l → sum_to (λ k. g (get_or l k d)) n ≡ sum_over g (take n l)
+unfolding sum_to sum_over
 sum_front g l zero d h = refl
 sum_front g l (suc n) d h =
-    let s : sumOver g (take (suc n) l) ≡ sumOver g (take n l) + g (get_or l n d) = rw (take-suc l n d (omega arith)) (sum_snoc g (take n l) (get_or l n d)) in
+    let s : sum_over g (take (suc n) l) ≡ sum_over g (take n l) + g (get_or l n d) = rw (take-suc l n d (omega arith)) (sum_snoc g (take n l) (get_or l n d)) in
     omega (arith, sum_front g l n d (omega arith))
 
 -- what is nowhere greater has no greater sum

@@ -11,7 +11,7 @@ use Rattle.std.proofs.Math.Seq.{get_or-set_same}
 use borrow.Author.Tests.{leb-true, leb-false, ltb-true}
 use Rattle.laws.specs.Tests.{split, and_both, never_both, or_none, eq_or_ne}
 use Rattle.laws.specs.Lists.{All}
-use Rattle.laws.specs.Sums.{sumOver, sum_set}
+use Rattle.laws.specs.Sums.{sum_over, sum_set}
 use Rattle.laws.specs.Tables.{take_least}
 use Rattle.model.specs.Gpu.{no_gpu}
 use Rattle.model.specs.declared.gpu.Gpu.{Gpu}
@@ -46,12 +46,12 @@ unplaced_same gpus n profile most want owner h =
 module _ (gpus : List Gpu) (n profile want owner : ℕ) (table : length gpus ≡ 128) (sized : All Sized gpus) where
   -- the owner holds as many more as are wanted
   pub free_gain : 0 < owner → enough_free gpus n profile want ≡ true →
-      sumOver (owned_slices owner) (given_in_order gpus n profile want owner 128) ≡ sumOver (owned_slices owner) gpus + want
+      sum_over (owned_slices owner) (given_in_order gpus n profile want owner 128) ≡ sum_over (owned_slices owner) gpus + want
   unfolding enough_free given_in_order free_in_all
   free_gain o h =
-      let a : free_but profile 128 (min n 128) 0 gpus ≡ sumOver (λ g. free_slices g profile) (take n gpus) =
+      let a : free_but profile 128 (min n 128) 0 gpus ≡ sum_over (λ g. free_slices g profile) (take n gpus) =
       but_all profile 128 (min n 128) 0 gpus (omega arith) ∙ rw (take_least n 128 gpus (omega arith)) in
-      omega (arith, leb-true want (sumOver (λ g. free_slices g profile) (take n gpus)) h, order_gain profile owner 128 want (min n 128) 0 gpus o sized)
+      omega (arith, leb-true want (sum_over (λ g. free_slices g profile) (take n gpus)) h, order_gain profile owner 128 want (min n 128) 0 gpus o sized)
 
 -- ---- a GPU is cut
 
@@ -77,9 +77,9 @@ module _ (gpus : List Gpu) (n profile most want owner : ℕ) (table : length gpu
   cut_elsewhere =
       let h : first_idle gpus n < min n 128 = cut_in in
       let z : 0 + first_idle gpus n ≡ first_idle gpus n = omega arith in
-      let b : free_but profile (0 + first_idle gpus n) (min n 128) 0 gpus + free_slices (get_or gpus (first_idle gpus n) no_gpu) profile ≡ sumOver
+      let b : free_but profile (0 + first_idle gpus n) (min n 128) 0 gpus + free_slices (get_or gpus (first_idle gpus n) no_gpu) profile ≡ sum_over
       (λ g. free_slices g profile) (take (min n 128) gpus) = but_one profile (min n 128) 0 (first_idle gpus n) gpus h (omega arith) in
-      let c : free_but profile (first_idle gpus n) (min n 128) 0 gpus + free_slices (get_or gpus (first_idle gpus n) no_gpu) profile ≡ sumOver
+      let c : free_but profile (first_idle gpus n) (min n 128) 0 gpus + free_slices (get_or gpus (first_idle gpus n) no_gpu) profile ≡ sum_over
       (λ g. free_slices g profile) (take n gpus) = rw (z, take_least n 128 gpus (omega arith)) at b in
       omega arith
 
@@ -95,7 +95,7 @@ module _ (gpus : List Gpu) (n profile most want owner : ℕ) (table : length gpu
   given_length = order_length profile owner (first_idle gpus n) want (min n 128) 0 gpus
 
   -- the others give all that they have, or as many as are wanted
-  pub others_gain : 0 < owner → sumOver (owned_slices owner) (given_in_order gpus n profile want owner (first_idle gpus n)) ≡ sumOver (owned_slices owner)
+  pub others_gain : 0 < owner → sum_over (owned_slices owner) (given_in_order gpus n profile want owner (first_idle gpus n)) ≡ sum_over (owned_slices owner)
       gpus + min want (free_elsewhere gpus n profile (first_idle gpus n))
   unfolding given_in_order
   others_gain o = rw (← cut_elsewhere) (order_gain profile owner (first_idle gpus n) want (min n 128) 0 gpus o sized)
@@ -123,7 +123,7 @@ module _ (gpus : List Gpu) (n profile most want owner : ℕ) (table : length gpu
 
   -- in all the owner holds as many more as are wanted
   pub cut_gain : 0 < owner → most ≤ 7 → enough_free gpus n profile want ≡ false →
-      sumOver (owned_slices owner) (cut_for gpus n profile want owner) ≡ sumOver (owned_slices owner) gpus + want
+      sum_over (owned_slices owner) (cut_for gpus n profile want owner) ≡ sum_over (owned_slices owner) gpus + want
   unfolding cut_for enough_free
   cut_gain o h e =
       let at : ℕ = first_idle gpus n in
@@ -131,7 +131,7 @@ module _ (gpus : List Gpu) (n profile most want owner : ℕ) (table : length gpu
       let new : Gpu = new_slices (get_or gpus at no_gpu) profile want (free_elsewhere gpus n profile at) owner in
       let i : at < min n 128 = cut_in in
       let l : length t ≡ 128 = given_length ∙ table in
-      let s : sumOver (owned_slices owner) (set t at new) + owned_slices owner (get_or t at no_gpu) ≡ sumOver (owned_slices owner) t + owned_slices owner
+      let s : sum_over (owned_slices owner) (set t at new) + owned_slices owner (get_or t at no_gpu) ≡ sum_over (owned_slices owner) t + owned_slices owner
       new = sum_set (owned_slices owner) t at new no_gpu (omega arith) in
       let z : owned_slices owner (get_or t at no_gpu) ≡ 0 = ap (owned_slices owner) cut_kept ∙ idle_none owner (get_or gpus at no_gpu) o cut_was_idle in
       let w : free_in_all gpus n profile < want = leb-false want (free_in_all gpus n profile) e in
@@ -148,7 +148,7 @@ After profile want owner at g h k =
 module _ (gpus : List Gpu) (n profile most want owner : ℕ) (table : length gpus ≡ 128) (sized : All Sized gpus) where
   -- a job that gets its slices holds as many more as it wants
   pub allocated_gain : 0 < owner → most ≤ 7 → (slices_allocated gpus n profile most want owner).placed ≡ true →
-      sumOver (owned_slices owner) (slices_allocated gpus n profile most want owner).gpus ≡ sumOver (owned_slices owner) gpus + want
+      sum_over (owned_slices owner) (slices_allocated gpus n profile most want owner).gpus ≡ sum_over (owned_slices owner) gpus + want
   unfolding slices_allocated
   allocated_gain o h =
       split
@@ -161,8 +161,8 @@ module _ (gpus : List Gpu) (n profile most want owner : ℕ) (table : length gpu
       (λ f. rw f (λ p. absurd (never_both p refl)))))
 
   -- exactly as many as it wants, if it had none
-  pub allocated_want : 0 < owner → most ≤ 7 → sumOver (owned_slices owner) gpus ≡ 0 → (slices_allocated gpus n profile most want owner).placed ≡ true →
-      sumOver (owned_slices owner) (slices_allocated gpus n profile most want owner).gpus ≡ want
+  pub allocated_want : 0 < owner → most ≤ 7 → sum_over (owned_slices owner) gpus ≡ 0 → (slices_allocated gpus n profile most want owner).placed ≡ true →
+      sum_over (owned_slices owner) (slices_allocated gpus n profile most want owner).gpus ≡ want
   allocated_want o h z p = omega (arith, allocated_gain o h p)
 
   -- a GPU after giving in order

@@ -13,7 +13,7 @@ use Rattle.std.proofs.lemmas.Bool.{eqb-false}
 use Rattle.laws.specs.Tests.{split, and_both, or_none, never_both}
 use Rattle.laws.specs.Lists.{All, Distinct, all_weaken, all_both}
 use Rattle.laws.specs.Search.{has, has_cases, those, those_step, those_take, those_skip, those_end}
-use Rattle.laws.specs.Sums.{bit, sumOver, sum_set}
+use Rattle.laws.specs.Sums.{bit, sum_over, sum_set}
 
 -- a turn of a loop that writes the place at hand: what is before it, the new element, what is made of the rest
 pub turn_set : {A : Type 0} (t r : List A) (i : ℕ) (x : A) → i < length t → take (i + 1) (set t i x) ++ r ≡ take i t ++ (x ∷ r)
@@ -119,11 +119,11 @@ module _ {A : Type 0} (x : A) where
 
   -- a weight that the places had not grows with each
   pub put_sum : (w : A → ℕ) (d : A) (l : List ℕ) (t : List A) → Distinct l → All (λ i. (i < length t) × (w (get_or t i d) ≡ 0)) l →
-      sumOver w (put t l x) ≡ sumOver w t + length l * w x
+      sum_over w (put t l x) ≡ sum_over w t + length l * w x
   unfolding put
   put_sum w d [] t s h = omega arith
   put_sum w d (i ∷ l) t s h =
-      let a : sumOver w (set t i x) + w (get_or t i d) ≡ sumOver w t + w x = sum_set w t i x d h.0.0 in
+      let a : sum_over w (set t i x) + w (get_or t i d) ≡ sum_over w t + w x = sum_set w t i x d h.0.0 in
       let m : suc (length l) * w x ≡ length l * w x + w x = suc-mul (length l) (w x) in
       omega (
         arith,

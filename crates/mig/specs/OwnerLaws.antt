@@ -3,7 +3,7 @@ use Rattle.std.specs.Prelude.{◌≡◌, refl, true, List, [], ◌∷◌, map, �
 use Rattle.std.proofs.Common.{arith, eqb-true, eq-eqb, ne_eqb}
 use Rattle.laws.specs.Tests.{split, and_both, never_both}
 use Rattle.laws.specs.Lists.{All}
-use Rattle.laws.specs.Sums.{sumOver, bit}
+use Rattle.laws.specs.Sums.{sum_over, bit}
 use Rattle.model.specs.declared.gpu.Gpu.{Gpu}
 use Rattle.mig.specs.Owner.{nobodys, idle, without_owner, freed}
 
@@ -13,7 +13,7 @@ is_of owner x = bit (eqb x owner)
 
 -- How many slices of a GPU the owner holds.
 unfoldable pub owned_slices : ℕ → Gpu → ℕ
-owned_slices owner g = sumOver (is_of owner) g.owners
+owned_slices owner g = sum_over (is_of owner) g.owners
 
 -- ---- idle
 
@@ -24,8 +24,8 @@ nobodys_at (x ∷ l) zero h = eqb-true x 0 (and_both (eqb x 0) (nobodys l) h).0
 nobodys_at (x ∷ l) (suc k) h = nobodys_at l k (and_both (eqb x 0) (nobodys l) h).1
 
 -- no owner holds any of them
-pub nobodys_sum : (owner : ℕ) (l : List ℕ) → 0 < owner → nobodys l ≡ true → sumOver (is_of owner) l ≡ 0
-unfolding sumOver
+pub nobodys_sum : (owner : ℕ) (l : List ℕ) → 0 < owner → nobodys l ≡ true → sum_over (is_of owner) l ≡ 0
+unfolding sum_over
 nobodys_sum owner [] o h = refl
 nobodys_sum owner (x ∷ l) o h =
     let a : x ≡ 0 = eqb-true x 0 (and_both (eqb x 0) (nobodys l) h).0 in
@@ -62,8 +62,8 @@ without_gone owner x o =
     split (eqb x owner) (λ e. rw e (λ z. omega arith)) (λ e. rw e (λ z. never_both (eq-eqb x owner z) e))
 
 -- none of the slices is the owner's after
-pub without_sum : (owner : ℕ) (l : List ℕ) → 0 < owner → sumOver (is_of owner) (map (without_owner owner) l) ≡ 0
-unfolding sumOver
+pub without_sum : (owner : ℕ) (l : List ℕ) → 0 < owner → sum_over (is_of owner) (map (without_owner owner) l) ≡ 0
+unfolding sum_over
 without_sum owner [] o = refl
 without_sum owner (x ∷ l) o = rw (ne_eqb (without_owner owner x) owner (without_gone owner x o)) (omega (arith, without_sum owner l o))
 

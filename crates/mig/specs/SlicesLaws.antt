@@ -11,7 +11,7 @@ use borrow.Author.Tests.{eqb-true, eq-eqb, ne_eqb, ltb-false}
 use Rattle.laws.specs.Tests.{split, and_both, both_and}
 use Rattle.laws.specs.Lists.{All, Distinct, all_weaken, all_take, distinct_take}
 use Rattle.laws.specs.Search.{has, has_at, has_take, those, those_in, those_each, those_all, those_length, those_distinct}
-use Rattle.laws.specs.Sums.{sumOver}
+use Rattle.laws.specs.Sums.{sum_over}
 use Rattle.model.specs.declared.gpu.Gpu.{Gpu}
 use Rattle.mig.specs.More.{those_every, put, put_length, put_other, put_in, put_sum}
 use Rattle.mig.specs.Owner.{idle}
@@ -139,11 +139,11 @@ module _ (g : Gpu) (profile most owner : ℕ) (sized : length g.owners ≡ 7) wh
   pub given_gain : 0 < owner → most ≤ free_slices g profile → owned_slices owner (given_slices g profile most owner) ≡ owned_slices owner g + most
   unfolding given_slices owned_slices
   given_gain o h =
-      let s : sumOver (is_of owner) (put g.owners (take most (free_on g profile)) owner) ≡ sumOver (is_of owner) g.owners + length
+      let s : sum_over (is_of owner) (put g.owners (take most (free_on g profile)) owner) ≡ sum_over (is_of owner) g.owners + length
       (take most (free_on g profile)) * is_of owner owner =
       put_sum owner (is_of owner) 0 (take most (free_on g profile)) g.owners single (chosen (is_of owner) (rw (ne_eqb 0 owner (λ e. omega arith)))) in
       let e : is_of owner owner ≡ 1 = rw (eq-eqb owner owner refl) in
-      let t : sumOver (is_of owner) (put g.owners (take most (free_on g profile)) owner) ≡ sumOver (is_of owner) g.owners + most * 1 =
+      let t : sum_over (is_of owner) (put g.owners (take most (free_on g profile)) owner) ≡ sum_over (is_of owner) g.owners + most * 1 =
       rw (length-take-le most (free_on g profile) h, e) at s in
       omega arith
 
@@ -151,11 +151,11 @@ module _ (g : Gpu) (profile most owner : ℕ) (sized : length g.owners ≡ 7) wh
   pub given_other : (other : ℕ) → 0 < other → (other ≡ owner → ⊥) → owned_slices other (given_slices g profile most owner) ≡ owned_slices other g
   unfolding given_slices owned_slices
   given_other other o n =
-      let s : sumOver (is_of other) (put g.owners (take most (free_on g profile)) owner) ≡ sumOver (is_of other) g.owners + length
+      let s : sum_over (is_of other) (put g.owners (take most (free_on g profile)) owner) ≡ sum_over (is_of other) g.owners + length
       (take most (free_on g profile)) * is_of other owner =
       put_sum owner (is_of other) 0 (take most (free_on g profile)) g.owners single (chosen (is_of other) (rw (ne_eqb 0 other (λ e. omega arith)))) in
       let e : is_of other owner ≡ 0 = rw (ne_eqb owner other (λ z. n (sym z))) in
-      let t : sumOver (is_of other) (put g.owners (take most (free_on g profile)) owner) ≡ sumOver (is_of other) g.owners + length
+      let t : sum_over (is_of other) (put g.owners (take most (free_on g profile)) owner) ≡ sum_over (is_of other) g.owners + length
       (take most (free_on g profile)) * 0 = rw e at s in
       omega arith
 

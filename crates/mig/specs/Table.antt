@@ -2,7 +2,7 @@
 use Rattle.std.specs.Prelude.{Bool, ◌&&◌, List, [], ◌∷◌, ℕ, zero, suc, ◌+◌, ◌-◌, min, eqb, get_or, take}
 use Rattle.laws.specs.Choice.{pick}
 use Rattle.laws.specs.Search.{first}
-use Rattle.laws.specs.Sums.{sumOver}
+use Rattle.laws.specs.Sums.{sum_over}
 use Rattle.model.specs.Sizes as Sizes
 use Rattle.model.specs.Gpu.{no_gpu}
 use Rattle.model.specs.declared.gpu.Gpu.{Gpu}
@@ -23,7 +23,7 @@ first_idle gpus n = first (may_cut_at gpus) (min n Sizes.gpus) 0
 
 -- The free slices of a profile on all GPUs.
 unfoldable pub free_in_all : List Gpu → ℕ → ℕ → ℕ
-free_in_all gpus n profile = sumOver (λ g. free_slices g profile) (take n gpus)
+free_in_all gpus n profile = sum_over (λ g. free_slices g profile) (take n gpus)
 
 -- How many of the slices still wanted GPU number i gives: none if it is the one excepted, else what it has.
 unfoldable pub gives : Gpu → ℕ → ℕ → ℕ → ℕ → ℕ

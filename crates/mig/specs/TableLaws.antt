@@ -9,7 +9,7 @@ use Rattle.laws.specs.Choice.{pick}
 use Rattle.laws.specs.Tests.{split}
 use Rattle.laws.specs.Lists.{All}
 use Rattle.laws.specs.Search.{first_has, first_before}
-use Rattle.laws.specs.Sums.{sumOver}
+use Rattle.laws.specs.Sums.{sum_over}
 use Rattle.model.specs.Gpu.{no_gpu}
 use Rattle.model.specs.declared.gpu.Gpu.{Gpu}
 use Rattle.mig.specs.OwnerLaws.{owned_slices}
@@ -52,16 +52,16 @@ unfolding gives
 gives_free g profile left i except = split (eqb i except) (λ e. rw e (omega arith)) (λ e. rw e (omega arith))
 
 -- with no exception it is all that is free
-pub but_all : (profile except m i : ℕ) (gpus : List Gpu) → i + m ≤ except → free_but profile except m i gpus ≡ sumOver (λ g. free_slices g profile) (take m gpus)
-unfolding free_but sumOver
+pub but_all : (profile except m i : ℕ) (gpus : List Gpu) → i + m ≤ except → free_but profile except m i gpus ≡ sum_over (λ g. free_slices g profile) (take m gpus)
+unfolding free_but sum_over
 but_all profile except zero i gpus h = refl
 but_all profile except (suc m) i [] h = refl
 but_all profile except (suc m) i (g ∷ gpus) h =
     rw (ne_eqb i except (λ e. omega arith), but_all profile except m (i + 1) gpus (omega arith))
 
 -- with one GPU after the exception it is all that is free
-pub but_past : (profile except m i : ℕ) (gpus : List Gpu) → except < i → free_but profile except m i gpus ≡ sumOver (λ g. free_slices g profile) (take m gpus)
-unfolding free_but sumOver
+pub but_past : (profile except m i : ℕ) (gpus : List Gpu) → except < i → free_but profile except m i gpus ≡ sum_over (λ g. free_slices g profile) (take m gpus)
+unfolding free_but sum_over
 but_past profile except zero i gpus h = refl
 but_past profile except (suc m) i [] h = refl
 but_past profile except (suc m) i (g ∷ gpus) h =
@@ -69,8 +69,8 @@ but_past profile except (suc m) i (g ∷ gpus) h =
 
 -- with an exception in range its slices are missing
 pub but_one : (profile m i k : ℕ) (gpus : List Gpu) → k < m → k < length gpus →
-    free_but profile (i + k) m i gpus + free_slices (get_or gpus k no_gpu) profile ≡ sumOver (λ g. free_slices g profile) (take m gpus)
-unfolding free_but sumOver
+    free_but profile (i + k) m i gpus + free_slices (get_or gpus k no_gpu) profile ≡ sum_over (λ g. free_slices g profile) (take m gpus)
+unfolding free_but sum_over
 but_one profile zero i k gpus h l = absurd (omega arith)
 but_one profile (suc m) i k [] h l = absurd (omega arith)
 but_one profile (suc m) i zero (g ∷ gpus) h l =
@@ -78,7 +78,7 @@ but_one profile (suc m) i zero (g ∷ gpus) h l =
 but_one profile (suc m) i (suc k) (g ∷ gpus) h l =
     let e : i + suc k ≡ i + 1 + k = omega arith in
     rw (ne_eqb i (i + suc k) (λ z. omega arith)) (
-    subst (λ x. free_slices g profile + free_but profile x m (i + 1) gpus + free_slices (get_or gpus k no_gpu) profile ≡ free_slices g profile + sumOver (λ g. free_slices g profile) (take m gpus)) (sym e)
+    subst (λ x. free_slices g profile + free_but profile x m (i + 1) gpus + free_slices (get_or gpus k no_gpu) profile ≡ free_slices g profile + sum_over (λ g. free_slices g profile) (take m gpus)) (sym e)
     (omega (arith, but_one profile m (i + 1) k gpus (omega arith) (omega arith))))
 
 -- ---- giving in order
@@ -94,8 +94,8 @@ module _ (profile owner except : ℕ) where
 
   -- the owner holds as many slices more as are wanted, or as there are
   pub order_gain : (left m i : ℕ) (gpus : List Gpu) → 0 < owner → All Sized gpus →
-      sumOver (owned_slices owner) (in_order profile owner except left m i gpus) ≡ sumOver (owned_slices owner) gpus + min left (free_but profile except m i gpus)
-  unfolding in_order free_but sumOver
+      sum_over (owned_slices owner) (in_order profile owner except left m i gpus) ≡ sum_over (owned_slices owner) gpus + min left (free_but profile except m i gpus)
+  unfolding in_order free_but sum_over
   order_gain left zero i gpus o s = omega arith
   order_gain left (suc m) i [] o s = omega arith
   order_gain left (suc m) i (g ∷ gpus) o s =
@@ -108,8 +108,8 @@ module _ (profile owner except : ℕ) where
 
   -- any other owner holds as many as before
   pub order_other : (other left m i : ℕ) (gpus : List Gpu) → 0 < other → (other ≡ owner → ⊥) → All Sized gpus →
-      sumOver (owned_slices other) (in_order profile owner except left m i gpus) ≡ sumOver (owned_slices other) gpus
-  unfolding in_order sumOver
+      sum_over (owned_slices other) (in_order profile owner except left m i gpus) ≡ sum_over (owned_slices other) gpus
+  unfolding in_order sum_over
   order_other other left zero i gpus o n s = refl
   order_other other left (suc m) i [] o n s = refl
   order_other other left (suc m) i (g ∷ gpus) o n s =

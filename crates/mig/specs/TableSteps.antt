@@ -5,7 +5,7 @@ use Prim.Native.Nat.{ℕ, zero, suc, ◌+◌, ◌-◌, ◌<◌, ◌≤◌, min}
 use native.Mathlib.Omega.{arith}
 use Rattle.std.proofs.Math.Seq.{set_out}
 use Rattle.laws.specs.Search.{those_length, first, first_found, first_next, first_end}
-use Rattle.laws.specs.Sums.{sumOver, sum_next}
+use Rattle.laws.specs.Sums.{sum_over, sum_next}
 use Rattle.laws.specs.Tests.{le_or_lt}
 use Rattle.laws.specs.Choice.{pick_either}
 use Rattle.laws.specs.Tables.{take_least}
@@ -122,12 +122,12 @@ pub free_count : {r : ℕ} (g : Gpu) (profile : ℕ) → r ≡ free_slices g pro
 free_count g profile e = omega (arith, free_most g profile)
 
 -- a turn adds those of the GPU at hand
-pub free_turn : (gpus : List Gpu) (profile i sum r : ℕ) (d : Gpu) → i < length gpus → sum ≡ sumOver (λ g. free_slices g profile) (take i gpus) →
-    r ≡ free_slices (get_or gpus i d) profile → sum + r ≡ sumOver (λ g. free_slices g profile) (take (i + 1) gpus)
+pub free_turn : (gpus : List Gpu) (profile i sum r : ℕ) (d : Gpu) → i < length gpus → sum ≡ sum_over (λ g. free_slices g profile) (take i gpus) →
+    r ≡ free_slices (get_or gpus i d) profile → sum + r ≡ sum_over (λ g. free_slices g profile) (take (i + 1) gpus)
 free_turn gpus profile i sum r d h e f = omega (arith, sum_next (λ g. free_slices g profile) gpus i d h)
 
 -- past the last GPU all are added
 pub free_end : (gpus : List Gpu) (n profile m i : ℕ) → m ≡ min n 128 → length gpus ≡ 128 → i ≡ m →
-    sumOver (λ g. free_slices g profile) (take i gpus) ≡ free_in_all gpus n profile
+    sum_over (λ g. free_slices g profile) (take i gpus) ≡ free_in_all gpus n profile
 unfolding free_in_all
 free_end gpus n profile m i e l h = rw (h, e, take_least n 128 gpus (omega arith))

@@ -12,7 +12,7 @@ use Rattle.laws.specs.Tests.{split, fails, never_both, and_both, both_and}
 use Rattle.laws.specs.Lists.{All, all_weaken}
 use Rattle.laws.specs.Search.{those, those_each, those_distinct, those_more}
 use Rattle.laws.specs.Sort.{only}
-use Rattle.laws.specs.Sums.{sumOver}
+use Rattle.laws.specs.Sums.{sum_over}
 use Rattle.small.specs.Small.{plus_one, plus_one_lem}
 use Rattle.model.specs.Gpu.{no_gpu}
 use Rattle.model.specs.declared.gpu.Gpu.{Gpu}
@@ -110,8 +110,8 @@ nodes_kept gpus (v ∷ vs) = nodes_kept (map (freed (plus_one v)) gpus) vs ∙ n
 -- ---- a job with room has as many eligible GPUs as it asks for
 
 -- where each weighs at least b
-sum_least : {A : Type 0} (g : A → ℕ) (b : ℕ) (l : List A) → All (λ x. b ≤ g x) l → b * length l ≤ sumOver g l
-unfolding sumOver
+sum_least : {A : Type 0} (g : A → ℕ) (b : ℕ) (l : List A) → All (λ x. b ≤ g x) l → b * length l ≤ sum_over g l
+unfolding sum_over
 sum_least g b [] h = omega arith
 sum_least g b (x ∷ l) h =
     let e : b * suc (length l) ≡ b * length l + b = mul-suc b (length l) in omega (arith, h.0, sum_least g b l h.1)

@@ -8,7 +8,7 @@ use borrow.Author.Tests.{eq-eqb, ne_eqb, le-leb, leb-true, leb-false, lt-leb}
 use Rattle.laws.specs.Choice.{pick}
 use Rattle.laws.specs.Tests.{split}
 use Rattle.laws.specs.Search.{those}
-use Rattle.laws.specs.Sums.{sumOver, sum_next}
+use Rattle.laws.specs.Sums.{sum_over, sum_next}
 use Rattle.laws.specs.Tables.{take_least}
 use Rattle.model.specs.Sizes as Sizes
 use Rattle.model.specs.Gpu.{no_gpu}
@@ -54,7 +54,7 @@ kept_charge aware ask j = pick (candidate aware ask j) 0 (charge_to ask.tenant j
 
 -- what the tenant would use of its quota
 unfoldable pub used_at_least : Bool → ℕ → List Job → Ask → ℕ
-used_at_least aware n jobs ask = sumOver (kept_charge aware ask) (take n jobs)
+used_at_least aware n jobs ask = sum_over (kept_charge aware ask) (take n jobs)
 
 -- over the tenant's quota even then
 unfoldable pub is_over : Setting → List Job → Ask → Bool
@@ -166,13 +166,13 @@ reach_read aware sites jobs ask gpus i g r e f = sym (f ∙ rw e)
 
 -- a turn adds what the job at hand costs
 pub used_turn : (aware : Bool) (jobs : List Job) (ask : Ask) (i sum r : ℕ) (j : Job) → i < length jobs →
-    sum ≡ sumOver (kept_charge aware ask) (take i jobs) → j ≡ get_or jobs i no_job → r ≡ kept_charge aware ask j → sum + r ≡ sumOver (kept_charge aware ask) (take (i + 1) jobs)
+    sum ≡ sum_over (kept_charge aware ask) (take i jobs) → j ≡ get_or jobs i no_job → r ≡ kept_charge aware ask j → sum + r ≡ sum_over (kept_charge aware ask) (take (i + 1) jobs)
 used_turn aware jobs ask i sum r j h e f g =
     let k : r ≡ kept_charge aware ask (get_or jobs i no_job) = g ∙ ap (kept_charge aware ask) f in
     omega (arith, e, k, sum_next (kept_charge aware ask) jobs i no_job h)
 
 -- past the last job all are added
 pub used_end : (aware : Bool) (jobs : List Job) (ask : Ask) (n m i : ℕ) → m ≡ min n 128 → length jobs ≡ 128 → i ≡ m →
-    sumOver (kept_charge aware ask) (take i jobs) ≡ used_at_least aware n jobs ask
+    sum_over (kept_charge aware ask) (take i jobs) ≡ used_at_least aware n jobs ask
 unfolding used_at_least
 used_end aware jobs ask n m i e l h = rw (h, e, take_least n 128 jobs (omega arith))

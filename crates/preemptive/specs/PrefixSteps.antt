@@ -60,31 +60,31 @@ module _ (s : Setting) (clock : Float) (gpus : List Gpu) (jobs : List Job) (j : 
   evicted_next k v left after h e f a =
       a ∙ rw (take_next cs k 0 h, evicted_append clock jobs (take k cs) (get_or cs k 0 ∷ []), e, f)
 
-  module _ (k v : ℕ) (free : List Gpu) (left : List Job) (freeAfter : List Gpu) (left_after : List Job) (within : k < length cs)
-      (it : v ≡ get_or cs k 0) (so : Tried s clock gpus jobs j cs k free left) (away : freeAfter ≡ map (freed (plus_one v)) free)
+  module _ (k v : ℕ) (free : List Gpu) (left : List Job) (free_after : List Gpu) (left_after : List Job) (within : k < length cs)
+      (it : v ≡ get_or cs k 0) (so : Tried s clock gpus jobs j cs k free left) (away : free_after ≡ map (freed (plus_one v)) free)
       (gone : left_after ≡ evicted_all clock left (v ∷ [])) where
     -- the code's test is the definition's
-    opens_is : (r : Bool) → r ≡ placeable s freeAfter left_after j → opens s clock gpus jobs j cs (k + 1) ≡ r
+    opens_is : (r : Bool) → r ≡ placeable s free_after left_after j → opens s clock gpus jobs j cs (k + 1) ≡ r
     opens_is r e =
-        sym (e ∙ rw (freed_next k v free freeAfter within it so.gpus_now away, evicted_next k v left left_after within it so.jobs_now gone))
+        sym (e ∙ rw (freed_next k v free free_after within it so.gpus_now away, evicted_next k v left left_after within it so.jobs_now gone))
 
     -- a turn after which the job is still not placeable
-    pub tried_next : (r : Bool) → r ≡ placeable s freeAfter left_after j → r ≡ false → Tried s clock gpus jobs j cs (k + 1) freeAfter left_after
+    pub tried_next : (r : Bool) → r ≡ placeable s free_after left_after j → r ≡ false → Tried s clock gpus jobs j cs (k + 1) free_after left_after
     tried_next r e f =
         record {
-          gpus_now = freed_next k v free freeAfter within it so.gpus_now away;
+          gpus_now = freed_next k v free free_after within it so.gpus_now away;
           jobs_now = evicted_next k v left left_after within it so.jobs_now gone;
           still = sym (first_next (opens s clock gpus jobs j cs) (length cs + 1) (k + 1) (omega arith) (opens_is r e ∙ f)) ∙ so.still;
         }
 
     -- a turn after which it is
-    pub tried_found : (ids : List ℕ) (r : Bool) → r ≡ placeable s freeAfter left_after j → r ≡ true →
-        record { gpus = freeAfter; jobs = left_after; victims = ids; count = k + 1 } ≡ made s clock gpus jobs j ids cs
+    pub tried_found : (ids : List ℕ) (r : Bool) → r ≡ placeable s free_after left_after j → r ≡ true →
+        record { gpus = free_after; jobs = left_after; victims = ids; count = k + 1 } ≡ made s clock gpus jobs j ids cs
     unfolding made shortest
     tried_found ids r e t =
         let f : first (opens s clock gpus jobs j cs) (length cs) 1 ≡ k + 1 = sym so.still
         ∙ first_found (opens s clock gpus jobs j cs) (length cs + 1) (k + 1) (omega arith) (opens_is r e ∙ t) in
-        let a : freeAfter ≡ freed_all gpus (take (k + 1) cs) = freed_next k v free freeAfter within it so.gpus_now away in
+        let a : free_after ≡ freed_all gpus (take (k + 1) cs) = freed_next k v free free_after within it so.gpus_now away in
         let b : left_after ≡ evicted_all clock jobs (take (k + 1) cs) = evicted_next k v left left_after within it so.jobs_now gone in
         rw (f, le-leb (k + 1) (length cs) (omega arith), a, b)
 

@@ -20,7 +20,7 @@ use Rattle.promises.specs.EndingSteps.{reached_ends}
 use Rattle.promises.specs.RunEnd.{end_told, RunEnds, RunGoesOn, Last}
 use Rattle.promises.proofs.RunEnd.{step_run}
 use Rattle.promises.specs.RunStart.{Fixed, FixedIn, step_fixed}
-use Rattle.promises.specs.FourthRun.{Further, here, farther, Among, fixedEnd}
+use Rattle.promises.specs.FourthRun.{Further, here, farther, Among, fixed_end}
 
 -- reached after some number of steps
 record ReachedThen (trace : List ℕ) (p : Plan) (h : List Decision) : Type 0 where
@@ -109,10 +109,10 @@ module _ (trace : List ℕ) where
 
     -- From its fourth start on, any number of steps: the job is as it was when it started, or its completion was told at the time that the start fixed.
     pub fourth_run_in_full : starts_of d.job (h ++ decisions (advanced p).log) ≡ 4 → (q : Plan) (ds : List Decision) → Further then q ds →
-        Among (fixedEnd trace then d.job fixed.penalised) ds ⊎ RunGoesOn then d.job fixed.entry q
+        Among (fixed_end trace then d.job fixed.penalised) ds ⊎ RunGoesOn then d.job fixed.entry q
     fourth_run_in_full four q ds f =
         let n : Reached trace (k + 1) then (h ++ decisions (advanced p).log) = onward r buffer accepted in
         let run : (job_at then.jobs d.job).run ≡ 4 =
         sym ((reached_between trace (k + 1) then (h ++ decisions (advanced p).log) n).0.good.started d.job) ∙ four in
-        let e : end_told then d.job fixed.entry ≡ fixedEnd trace then d.job fixed.penalised = rw fixed.time in
+        let e : end_told then d.job fixed.entry ≡ fixed_end trace then d.job fixed.penalised = rw fixed.time in
         rw (← e) (fourth_run_ends (k + 1) then (h ++ decisions (advanced p).log) n d.job fixed.entry fixed.runs_now run (rw (← run) fixed.is) q ds f)

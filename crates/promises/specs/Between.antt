@@ -3,7 +3,7 @@ use Rattle.std.specs.Prelude.{◌≡◌, refl, true, List, ◌++◌, ℕ, ◌+�
 use Rattle.std.proofs.Common.{sym, ap, ◌∙◌, arith, length-take}
 use Rattle.std.proofs.lemmas.List.{length-map}
 use Rattle.laws.specs.Lists.{All, Distinct, all_every, all_weaken, distinct_right, pad_length}
-use Rattle.laws.specs.Sums.{sumOver, bit, sum_same}
+use Rattle.laws.specs.Sums.{sum_over, bit, sum_same}
 use Rattle.model.specs.declared.job.Ask.{Ask}
 use Rattle.model.specs.declared.job.Job.{Job}
 use Rattle.model.specs.declared.job.JobState.{JobState}
@@ -86,7 +86,7 @@ few_runs jobs ks o l =
     l
 
 -- the sums of timeouts agree where the asks do
-timed_same : (jobs₀ jobs : List Job) (vs : List ℕ) → ((i : ℕ) → (job_at jobs i).ask ≡ (job_at jobs₀ i).ask) → sumOver (timed_one jobs) vs ≡ sumOver (timed_one jobs₀) vs
+timed_same : (jobs₀ jobs : List Job) (vs : List ℕ) → ((i : ℕ) → (job_at jobs i).ask ≡ (job_at jobs₀ i).ask) → sum_over (timed_one jobs) vs ≡ sum_over (timed_one jobs₀) vs
 timed_same jobs₀ jobs vs e =
     sum_same (timed_one jobs) (timed_one jobs₀) vs (all_every (λ v. timed_one jobs v ≡ timed_one jobs₀ v) vs (λ v. ap (λ (x : Ask). bit (timed x)) (e v)))
 
@@ -105,7 +105,7 @@ pub record Passed (jobs₀ : List Job) (h : List Decision) (c : ℕ) (p : Plan) 
   pub came_same : Came p.jobs q.jobs
 
 pub passed : (jobs₀ : List Job) (k : ℕ) (h : List Decision) (m : Moment) → Amid jobs₀ k h m → Passed jobs₀ h m.log.count m.plan (pass_of m)
-unfolding pass_of new_pass new_line sorted sumOver
+unfolding pass_of new_pass new_line sorted sum_over
 passed jobs₀ k h m a =
     let p : Plan = m.plan in
     let line : Line = new_line p.queue p.waiting p.totals m.log m.ok in
@@ -146,9 +146,9 @@ begun_so jobs₀ k h one m a q w =
     let a0 : Ahead = record { events = p.events; next = p.next; ok = q.line.ok } in
     let a1 : Ahead = timeouts_queued p.clock q.jobs a0 vs in
     let b : Begun = record { jobs = q.jobs; ahead = a1; totals = q.line.totals; log = q.line.log } in
-    let t : sumOver (timed_one q.jobs) vs ≡ sumOver (timed_one jobs₀) vs = timed_same jobs₀ q.jobs vs w.owed.asks in
+    let t : sum_over (timed_one q.jobs) vs ≡ sum_over (timed_one jobs₀) vs = timed_same jobs₀ q.jobs vs w.owed.asks in
     let n9 : s.jobs + all_events q.jobs ≤ 9 * s.jobs = nine jobs₀ s q.jobs (h ++ decisions q.line.log) a.between.loaded w.good.good w.owed.rest in
-    let g1 : Grown k (sumOver (timed_one q.jobs) vs) a0 a1 =
+    let g1 : Grown k (sum_over (timed_one q.jobs) vs) a0 a1 =
     timeouts_grown k p.clock q.jobs a0 vs one (omega (arith, t, n9, w.owed.owed, a.between.given, a.between.loaded))
     (record { size = a.between.counted.size; count = a.between.counted.count }) in
     let l : length ps ≡ q.count = sym (length-map ps (λ x. x.job)) ∙ so.count in

@@ -7,7 +7,7 @@ use Rattle.std.proofs.Math.ListN.{set, length-set}
 use Rattle.std.proofs.Math.Seq.{get_or-set_same, get_or-set_other}
 use Rattle.laws.specs.Tests.{never_both, and_both, le_or_lt, eq_or_ne}
 use Rattle.laws.specs.Tables.{past_read, past_put}
-use Rattle.laws.specs.Sums.{sumOver, bit, sum_set, sum_kept, sum_at}
+use Rattle.laws.specs.Sums.{sum_over, bit, sum_set, sum_kept, sum_at}
 use Rattle.model.specs.Event.{empty_event}
 use Rattle.model.specs.declared.event.Event.{Event}
 use Rattle.model.specs.declared.event.EventKind.{EventKind}
@@ -27,7 +27,7 @@ end_one j g e = bit (is_completion e.kind && (eqb e.job j && eqb e.generation g)
 
 -- How many completions of the job's run of that generation are ahead.
 abbrev pub completions_of : ℕ → ℕ → List Event → ℕ
-completions_of j g events = sumOver (end_one j g) events
+completions_of j g events = sum_over (end_one j g) events
 
 -- it is the completion of the job's run of that generation
 pub record EndOf (j g : ℕ) (e : Event) : Type 0 where
@@ -116,7 +116,7 @@ module _ (events : List Event) (size : length events ≡ 1152) where
     pub added_end : (j g : ℕ) (e : Event) → end_one j g e ≡ 1 → completions_of j g (added events e) ≡ completions_of j g events + 1
     unfolding added
     added_end j g e o =
-        let s : sumOver (end_one j g) (set events (first_free events) e) + end_one j g (event_at events (first_free events)) ≡ sumOver (end_one j g) events
+        let s : sum_over (end_one j g) (set events (first_free events) e) + end_one j g (event_at events (first_free events)) ≡ sum_over (end_one j g) events
         + end_one j g e = sum_set (end_one j g) events (first_free events) e empty_event (omega (arith, free_entry events size room)) in
         omega (arith, s, o, (free_weighs j g (event_at events (first_free events)) free_unused).0)
 
@@ -129,7 +129,7 @@ module _ (events : List Event) (size : length events ≡ 1152) where
   pub taken_end : (i j g : ℕ) → i < 1152 → completions_of j g (taken events i) + end_one j g (event_at events i) ≡ completions_of j g events
   unfolding taken
   taken_end i j g b =
-      let s : sumOver (end_one j g) (set events i empty_event) + end_one j g (event_at events i) ≡ sumOver (end_one j g) events + end_one j g empty_event =
+      let s : sum_over (end_one j g) (set events i empty_event) + end_one j g (event_at events i) ≡ sum_over (end_one j g) events + end_one j g empty_event =
       sum_set (end_one j g) events i empty_event empty_event (omega arith) in
       omega (arith, s, (free_weighs j g empty_event refl).0)
 
@@ -160,7 +160,7 @@ pub record Found (j g : ℕ) (events : List Event) : Type 0 where
 
 -- where some are counted there is one
 pub end_found : (j g : ℕ) (events : List Event) → 0 < completions_of j g events → Found j g events
-unfolding sumOver
+unfolding sum_over
 end_found j g [] h = absurd (omega arith)
 end_found j g (e ∷ events) h =
     ⊎_elim

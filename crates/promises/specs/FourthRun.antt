@@ -25,8 +25,8 @@ pub record Among (d : Decision) (ds : List Decision) : Type 0 where
 
 module _ (trace : List ℕ) where
   -- the completion that a start fixed, by the job as it runs: at start + remaining × multiplier
-  abbrev pub fixedEnd : Plan → ℕ → Bool → Decision
-  fixedEnd q j penalised =
+  abbrev pub fixed_end : Plan → ℕ → Bool → Decision
+  fixed_end q j penalised =
       let x = job_at q.jobs j in
       record {
         time = bits_of (Life.completion_at x x.start (Life.multiplier_of q.setting.options penalised));

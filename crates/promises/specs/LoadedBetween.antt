@@ -7,7 +7,7 @@ use Rattle.std.proofs.Math.Seq.{take-nil}
 use Rattle.laws.specs.Choice.{pick}
 use Rattle.laws.specs.Tests.{le_or_lt, eq_or_ne}
 use Rattle.laws.specs.Lists.{All, all_of, all_take}
-use Rattle.laws.specs.Sums.{sumOver, bit, sum_none, sum_first}
+use Rattle.laws.specs.Sums.{sum_over, bit, sum_none, sum_first}
 use Rattle.model.specs.Job.{new_job, no_job}
 use Rattle.model.specs.Event.{empty_event}
 use Rattle.model.specs.declared.job.Ask.{Ask}
@@ -57,11 +57,11 @@ new_so a =
 -- ---- sums over the room
 
 -- where only one place weighs anything the sum is at most its weight
-sum_only : {A : Type 0} (g : A → ℕ) (l : List A) (i : ℕ) (d : A) → g d ≡ 0 → ((k : ℕ) → (k ≡ i → ⊥) → g (get_or l k d) ≡ 0) → sumOver g l ≤ g (get_or l i d)
-unfolding sumOver
+sum_only : {A : Type 0} (g : A → ℕ) (l : List A) (i : ℕ) (d : A) → g d ≡ 0 → ((k : ℕ) → (k ≡ i → ⊥) → g (get_or l k d) ≡ 0) → sum_over g l ≤ g (get_or l i d)
+unfolding sum_over
 sum_only g [] i d z f = omega arith
 sum_only g (x ∷ l) zero d z f =
-    let r : sumOver g l ≡ 0 = sum_none g l (all_of (λ y. g y ≡ 0) l d (λ k b. f (suc k) (λ e. omega arith))) in
+    let r : sum_over g l ≡ 0 = sum_none g l (all_of (λ y. g y ≡ 0) l d (λ k b. f (suc k) (λ e. omega arith))) in
     omega (arith, r)
 sum_only g (x ∷ l) (suc i) d z f =
     let a : g x ≡ 0 = f 0 (λ e. omega arith) in
@@ -101,7 +101,7 @@ module _ (p : Plan) (r : Ready p) where
   used_all : in_use p.events ≡ p.setting.jobs
   used_all =
       let n : ℕ = p.setting.jobs in
-      let e : sumOver used_one p.events ≡ sumOver used_one (take n p.events) = sum_first used_one n p.events empty_event (λ k past. rw (r.empty k past)) in
+      let e : sum_over used_one p.events ≡ sum_over used_one (take n p.events) = sum_first used_one n p.events empty_event (λ k past. rw (r.empty k past)) in
       let l : length (take n p.events) ≡ n = length-take-le n p.events (omega (arith, r.event_size, r.job_room)) in
       let ones : All (λ x. used_one x ≡ 1) (take n p.events) =
       all_of (λ x. used_one x ≡ 1) (take n p.events) empty_event
@@ -119,14 +119,14 @@ module _ (p : Plan) (r : Ready p) where
       (all_of (λ j. charge_to tenant j ≡ 0) p.jobs no_job (λ k b. charge_none tenant (job_at p.jobs k) (new_at k).holds_not)))
 
   first_now : (m : ℕ) → Now p.setting p.jobs (take m [])
-  unfolding sumOver runs_from
+  unfolding sum_over runs_from
   first_now m =
       rw (take-nil m)
       (good_now p.setting p.jobs p.jobs [] r.job_size (λ k. refl) (λ k. (new_at k).ok) (λ k. sym (new_at k).evicted)
       (λ k. sym (new_at k).started) (λ k. sym (new_at k).runs_not) (λ tenant z f. omega (arith, f, nothing_used tenant)) tt)
 
   good_first : Good p.setting p.jobs p.jobs []
-  unfolding sumOver runs_from
+  unfolding sum_over runs_from
   good_first =
       record {
         size = r.job_size;

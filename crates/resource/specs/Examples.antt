@@ -8,7 +8,7 @@ use Rattle.model.specs.declared.job.JobState.{JobState}
 use Rattle.model.specs.declared.job.JobState.TheVariants.{Waiting, Running}
 use Rattle.model.specs.declared.setting.Setting.{Setting}
 use Rattle.std.specs.Float.Ieee.{eq, of_bits}
-use Rattle.laws.specs.Sums.{sumOver}
+use Rattle.laws.specs.Sums.{sum_over}
 use Rattle.laws.specs.Search.{those, first}
 use Rattle.mig.specs.More.{put}
 use Rattle.mig.specs.Owner.{idle}
@@ -95,7 +95,7 @@ gang = asks 0 3 true 2 Waiting
 -- A: usage 3, quota 4, count 1, room for it: yes. B: count 2: no. C: no quota entry: yes. I: a gang of 3 GPUs on 2 nodes: no.
 pub examples : (placeable (house 1 6 2 5) held (with_asking one) one ∷ placeable (house 1 6 2 5) held (with_asking two) two ∷ placeable
     (house 1 6 2 0) held (with_asking two) two ∷ placeable (house 2 5 1 0) free (gang ∷ []) gang ∷ []) ≡ (true ∷ false ∷ true ∷ false ∷ [])
-unfolding placeable first_cause resource_cause within_quota usage sumOver charge_to charge_of holding why_not_here why_not why_not_gang eligibles those eligible eq of_bits
+unfolding placeable first_cause resource_cause within_quota usage sum_over charge_to charge_of holding why_not_here why_not why_not_gang eligibles those eligible eq of_bits
 examples = refl
 
 -- ---- slices: profile 0, kept as 1, has most 4
@@ -114,12 +114,12 @@ half_cut = cuttable 1 1 nobodys ∷ cuttable 0 0 nobodys ∷ []
 -- J: two idle GPUs, most 4, 5 slices wanted: no. K: 2 wanted: yes, with the second GPU and without it.
 pub slices_examples : (slices_placeable (cuttable 0 0 nobodys ∷ cuttable 0 0 nobodys ∷ []) 2 1 4 5 ∷ slices_placeable half_cut 2 1 4 2 ∷
     slices_placeable half_cut 1 1 4 2 ∷ []) ≡ (false ∷ true ∷ true ∷ [])
-unfolding enough_free free_in_all sumOver free_on those cut_helps first_idle first idle
+unfolding enough_free free_in_all sum_over free_on those cut_helps first_idle first idle
 slices_examples = refl
 
 -- K: the first is cut anew, and its two new slices are given to the job, here number 8
 pub slices_given : slices_allocated half_cut 2 1 4 2 9 ≡ record
     { gpus = cuttable 1 2 (9 ∷ 9 ∷ 0 ∷ 0 ∷ 0 ∷ 0 ∷ 0 ∷ []) ∷ cuttable 0 0 nobodys ∷ []; placed = true; cut = true }
-unfolding slices_allocated enough_free free_in_all sumOver free_on those cut_helps first_idle first idle cut_for given_in_order in_order new_slices given_slices
+unfolding slices_allocated enough_free free_in_all sum_over free_on those cut_helps first_idle first idle cut_for given_in_order in_order new_slices given_slices
     cut_anew of_bits put free_elsewhere gives
 slices_given = refl

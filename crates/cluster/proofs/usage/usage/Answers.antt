@@ -1,6 +1,6 @@
 -- What is left to show of `usage`.
 use Rattle.cluster.specs.UsageSteps.{usage_turn, usage_end}
-use Rattle.laws.specs.Sums.{sumOver}
+use Rattle.laws.specs.Sums.{sum_over}
 use Rattle.model.specs.Job.{no_job}
 use Rattle.rows.specs.Job.{jobs_of}
 use mathlib.Core.Path.{refl, ap, ◌∙◌}
@@ -9,7 +9,7 @@ use Prim.Native.Nat.{min}
 use Rattle.cluster.proofs.usage.usage.Goals as goal
 
 pub loop-i-init : goal.loop-i-init
-unfolding sumOver
+unfolding sum_over
 loop-i-init c = (omega arith, omega arith, omega arith, refl)
 
 pub loop-i-preserved : goal.loop-i-preserved

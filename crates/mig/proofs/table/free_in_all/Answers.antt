@@ -1,6 +1,6 @@
 -- What is left to show of `free_in_all`.
 use Rattle.mig.specs.TableSteps.{free_count, free_turn, free_end}
-use Rattle.laws.specs.Sums.{sumOver}
+use Rattle.laws.specs.Sums.{sum_over}
 use Rattle.model.specs.Gpu.{no_gpu}
 use Rattle.rows.specs.Gpu.{gpus_of}
 use mathlib.Core.Path.{refl, ap, ◌∙◌}
@@ -9,7 +9,7 @@ use Prim.Native.Nat.{◌≤◌, min}
 use Rattle.mig.proofs.table.free_in_all.Goals as goal
 
 pub loop-i-init : goal.loop-i-init
-unfolding sumOver
+unfolding sum_over
 loop-i-init c = (omega arith, omega arith, omega arith, refl)
 
 pub overflow_add-sum : goal.overflow_add-sum

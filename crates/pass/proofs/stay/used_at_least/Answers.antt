@@ -2,13 +2,13 @@
 use mathlib.Core.Path.{refl, ap, ◌∙◌}
 use Prim.Native.Nat.{min}
 use native.Mathlib.Omega.{arith}
-use Rattle.laws.specs.Sums.{sumOver}
+use Rattle.laws.specs.Sums.{sum_over}
 use Rattle.rows.specs.Job.{jobs_of}
 use Rattle.pass.specs.Stay.{used_turn, used_end}
 use Rattle.pass.proofs.stay.used_at_least.Goals as goal
 
 pub loop-i-init : goal.loop-i-init
-unfolding sumOver
+unfolding sum_over
 loop-i-init c = (omega arith, omega arith, omega arith, refl)
 
 pub loop-i-preserved : goal.loop-i-preserved
