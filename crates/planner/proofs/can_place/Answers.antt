@@ -9,12 +9,11 @@ use Rattle.planner.proofs.can_place.Goals as goal
 pub returns-then-is_placeable : goal.returns-then-is_placeable
 unfolding question
 returns-then-is_placeable c =
-    let job_at_lem = c.job_at in
     let write-gpus = c.write_gpus in
     let write-jobs = c.write_jobs in
     let if1 = c.if-job-setting in
     let start = c.args in
-    let asked : job_at_lem.result ≡ get_or start.plan.jobs start.job no_job = job_at_lem.ensures in
+    let asked : c.job_at.result ≡ get_or start.plan.jobs start.job no_job = c.job_at.ensures in
     rw (
       lt-ltb start.job start.plan.setting.jobs if1.true,
       ← asked,
@@ -27,12 +26,11 @@ returns-then-is_placeable c =
 pub returns-then-job-setting : goal.returns-then-job-setting
 unfolding question
 returns-then-job-setting c =
-    let job_at_lem = c.job_at in
     let write-gpus = c.write_gpus in
     let write-jobs = c.write_jobs in
     let if1 = c.if-job-setting in
     let start = c.args in
-    let asked : job_at_lem.result ≡ get_or start.plan.jobs start.job no_job = job_at_lem.ensures in
+    let asked : c.job_at.result ≡ get_or start.plan.jobs start.job no_job = c.job_at.ensures in
     rw (
       lt-ltb start.job start.plan.setting.jobs if1.true,
       ← asked,

@@ -3,12 +3,6 @@ use mathlib.Core.Path.{sym, ◌∙◌}
 use Rattle.choice.specs.WhyCases.{choice_gang, choice_flag, choice_network, choice_best, choice_first}
 use Rattle.choice.proofs.choose.choice_of.Goals as goal
 
--- no goal nonzero-div-gang-choice now
--- div-gang-choice : tie.Need-nonzero-div-gang-choice
--- div-gang-choice c =
---     let start = c.before.before.before.before.before.before.args in
---     omega (arith, gang_some start.ask (sym c.before.before.before.is-gang.ensures ∙ c.before.before.if1.true))
-
 pub returns-then-is_gang : goal.returns-then-is_gang
 returns-then-is_gang c =
     let is-gang = c.is_gang in

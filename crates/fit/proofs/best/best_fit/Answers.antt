@@ -14,9 +14,8 @@ returns-then-count-n c =
 
 pub returns : goal.returns
 returns c =
-    let fullest_first_lem = c.fullest_first in
     let with-key = c.with_key-same in
     let best-node = c.best_node-node in
     let tally = c.tally-counts in
-    best_none _ _ _ _ with-key.result fullest_first_lem.result _ (best-node.ensures ∙ rw tally.ensures) with-key.ensures
-    c.if-count-n.false fullest_first_lem.ensures c.take_these-2.ensures
+    best_none _ _ _ _ with-key.result c.fullest_first.result _ (best-node.ensures ∙ rw tally.ensures) with-key.ensures
+    c.if-count-n.false c.fullest_first.ensures c.take_these-2.ensures

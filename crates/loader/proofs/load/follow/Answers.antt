@@ -32,16 +32,14 @@ returns-then-is_accepted c =
     let is-accepted = c.is_accepted in
     let fault-of = c.fault_of-fault in
     let if1 = c.if-is_end in
-    let is_end_lem = c.is_end in
     let start = c.args in
     let told = fault-of.ensures start.sites.now in
-    rw (← is_end_lem.ensures, if1.false, ← told, ← is-accepted.ensures, if3.true, ← c.put_record-after.ensures, c.turn_on.ensures)
+    rw (← c.is_end.ensures, if1.false, ← told, ← is-accepted.ensures, if3.true, ← c.put_record-after.ensures, c.turn_on.ensures)
 
 pub returns : goal.returns
 unfolding follow
 returns c =
     let if1 = c.if-is_end in
-    let is_end_lem = c.is_end in
     let start = c.args in
     let told = c.fault_of-fault.ensures start.sites.now in
-    rw (← is_end_lem.ensures, if1.false, ← told, ← c.is_accepted.ensures, c.if-is_accepted.false, c.turn_over-2.ensures)
+    rw (← c.is_end.ensures, if1.false, ← told, ← c.is_accepted.ensures, c.if-is_accepted.false, c.turn_over-2.ensures)

@@ -8,18 +8,15 @@ pub returns-then-ask-eq0 : goal.returns-then-ask-eq0
 returns-then-ask-eq0 c =
     let if1 = c.if-got in
     let allocate = c.allocate-got in
-    let plus_one_lem = c.plus_one in
-    considered_then _ _ _ _ _ (allocate.ensures ∙ rw plus_one_lem.ensures) _ _ if1.false c.if-ask-eq0.true c.preempt_for.ensures
+    considered_then _ _ _ _ _ (allocate.ensures ∙ rw c.plus_one.ensures) _ _ if1.false c.if-ask-eq0.true c.preempt_for.ensures
 
 pub returns-then-got : goal.returns-then-got
 returns-then-got c =
     let allocate = c.allocate-got in
-    let plus_one_lem = c.plus_one in
-    considered_given _ _ _ _ _ (allocate.ensures ∙ rw plus_one_lem.ensures) _ _ _ c.if-got.true (c.place_as.ensures allocate.new.gpus)
+    considered_given _ _ _ _ _ (allocate.ensures ∙ rw c.plus_one.ensures) _ _ _ c.if-got.true (c.place_as.ensures allocate.new.gpus)
 
 pub returns : goal.returns
 returns c =
     let allocate = c.allocate-got in
-    let plus_one_lem = c.plus_one in
-    considered_none _ _ _ _ (whole_allocation allocate.result allocate.new.gpus) (allocate.ensures ∙ rw plus_one_lem.ensures) _
+    considered_none _ _ _ _ (whole_allocation allocate.result allocate.new.gpus) (allocate.ensures ∙ rw c.plus_one.ensures) _
     c.if-got.false c.if-ask-eq0.false

@@ -7,8 +7,7 @@ use Rattle.pass.proofs.visit.settle.Goals as goal
 pub returns-then-got : goal.returns-then-got
 returns-then-got c =
     let allocate = c.allocate-got in
-    let plus_one_lem = c.plus_one in
-    settled_given _ _ _ _ _ (allocate.ensures ∙ rw plus_one_lem.ensures) _ _ c.if-got.true (c.place_as.ensures allocate.new.gpus)
+    settled_given _ _ _ _ _ (allocate.ensures ∙ rw c.plus_one.ensures) _ _ c.if-got.true (c.place_as.ensures allocate.new.gpus)
 
 pub returns : goal.returns
 returns c =

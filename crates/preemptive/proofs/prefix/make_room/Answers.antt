@@ -18,19 +18,17 @@ pub returns-then-is_placeable : goal.returns-then-is_placeable
 returns-then-is_placeable c =
     let evict-one = c.evict_one in
     let free_all = c.free_all in
-    let plus_one_lem = c.plus_one in
     let here = c.loop-k in
     let start = c.args in
     tried_found start.setting start.clock (gpus_of start.gpus.now) (jobs_of start.jobs.now) start.j (take start.count start.ids)
     here.k _ (gpus_of here.free) (jobs_of here.left) _ _ (omega arith)
-    (sym (get_or-take start.count start.ids here.k 0 (omega arith))) here.invariant.5 (rw (← plus_one_lem.ensures) free_all.ensures)
+    (sym (get_or-take start.count start.ids here.k 0 (omega arith))) here.invariant.5 (rw (← c.plus_one.ensures) free_all.ensures)
     evict-one.ensures start.ids _ c.is_placeable.ensures c.if-is_placeable.true
 
 pub loop-k-preserved : goal.loop-k-preserved
 loop-k-preserved c =
     let evict-one = c.evict_one in
     let free_all = c.free_all in
-    let plus_one_lem = c.plus_one in
     let here = c.loop-k in
     let start = c.args in (
       omega arith,
@@ -40,7 +38,7 @@ loop-k-preserved c =
       here.invariant.4,
       tried_next start.setting start.clock (gpus_of start.gpus.now) (jobs_of start.jobs.now) start.j
           (take start.count start.ids) here.k _ (gpus_of here.free) (jobs_of here.left) _ _ (omega arith)
-          (sym (get_or-take start.count start.ids here.k 0 (omega arith))) here.invariant.5 (rw (← plus_one_lem.ensures) free_all.ensures)
+          (sym (get_or-take start.count start.ids here.k 0 (omega arith))) here.invariant.5 (rw (← c.plus_one.ensures) free_all.ensures)
           evict-one.ensures _ c.is_placeable.ensures c.if-is_placeable.false,
     )
 

@@ -5,7 +5,6 @@ use Rattle.rows.proofs.gpu.gpu_of.Goals as goal
 pub returns : goal.returns
 unfolding gpu_of
 returns c =
-    let half_of_lem = c.half_of in
     let float_of = c.float_of in
     let byte-of2 = c.byte_of-2 in
     let byte_of = c.byte_of in
@@ -13,7 +12,7 @@ returns c =
       byte_of.ensures,
       byte-of2.ensures,
       float_of.ensures,
-      half_of_lem.ensures,
+      c.half_of.ensures,
       c.half_of-2.ensures,
       c.byte_of-3.ensures,
       c.byte_of-4.ensures,

@@ -7,9 +7,8 @@ unfolding halves
 returns c =
     let half-of3 = c.half_of-3 in
     let half-of2 = c.half_of-2 in
-    let half_of_lem = c.half_of in
     rw (
-      half_of_lem.ensures,
+      c.half_of.ensures,
       half-of2.ensures,
       half-of3.ensures,
       c.half_of-4.ensures,
