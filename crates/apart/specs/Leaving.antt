@@ -19,8 +19,7 @@ use Rattle.mig.specs.declared.allocate.Slices.{Slices}
 use Rattle.order.specs.Order.{sorted_front}
 use Rattle.cluster.specs.Queue.{before, sorted_queue}
 use Rattle.cluster.specs.GpusLaws.{given_length}
-use Rattle.eligible.specs.Chosen.{list_of}
-use Rattle.choice.specs.Choose.{choose}
+use Rattle.choice.specs.Choose.{choose, got_of}
 use Rattle.resource.specs.Cause.{most_of, placeable}
 use Rattle.resource.specs.Allocate.{whole_allocated, slices_got, allocated}
 use Rattle.resource.specs.declared.allocate.Allocation.{Allocation}
@@ -72,7 +71,7 @@ allocated_length s gpus jobs j owner =
     (eqb j.ask.profile 0)
     _
     _
-    (given_length owner gpus (list_of (choose gpus s.gpus s.sites j.ask s.options.best).chosen))
+    (given_length owner gpus (got_of (choose gpus s.gpus s.sites j.ask s.options.best)))
     (slices_length gpus s.gpus j.ask.profile (most_of s j.ask.profile) j.ask.slices owner))
     refl
 

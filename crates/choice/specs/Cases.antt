@@ -1,25 +1,29 @@
 -- The cases of the choices, one for each return of the code, and the turns of the loops.
-use Rattle.std.specs.Prelude.{◌≡◌, Bool, true, not, ◌||◌, ℕ, ◌+◌, ◌≤◌, ◌<◌, min, length, get_or}
+use Rattle.std.specs.Prelude.{◌≡◌, Bool, true, not, ◌||◌, ℕ, ◌+◌, ◌≤◌, ◌<◌, leb, ltb, length, get_or, Option, Some, None}
+use Rattle.std.specs.List.{position, position_or_len}
 use Rattle.std.proofs.Math.Path.{refl}
 use Rattle.std.proofs.Common.{sym, ◌∙◌, ⊎_elim, arith, length-append, length-take, take-take, le-leb}
 use Rattle.std.proofs.Math.Bool.{false}
+use mathlib.Core.Bool.{beq}
 use mathlib.Core.List.{List, [], ◌∷◌, ◌++◌, append_assoc, append-nil}
 use Rattle.std.proofs.Math.ListN.{take}
 use Rattle.std.proofs.Math.Seq.{take_all}
 use Rattle.std.proofs.lemmas.List.{take-append-le}
+use Rattle.std.proofs.lemmas.List.Sums.{position_or_len_is}
+use Rattle.std.proofs.lemmas.Option.{none-some, cond_some}
 use Rattle.std.proofs.lemmas.Bool.{lt-leb}
+use borrow.Author.Tests.{ltb-true, ltb-false}
+use Rattle.laws.specs.Choice.{pick}
 use Rattle.laws.specs.Tests.{split, le_or_lt}
-use Rattle.laws.specs.Search.{first, those_length}
-use Rattle.laws.specs.Tables.{take_least}
+use Rattle.laws.specs.Search.{first, first_range, first_before, first_has, those_length}
 use Rattle.eligible.specs.Chosen.{chosen, list_of, with_key, count_of, tally_of}
-use Rattle.eligible.specs.More.{take_next}
+use Rattle.eligible.specs.More.{take_next, each_length}
 use Rattle.eligible.specs.Turns as Turns
 use Rattle.eligible.specs.declared.chosen.Chosen.{Chosen}
 use Rattle.fit.specs.declared.first.Choice.{Choice}
 use Rattle.fit.specs.First.{held, took}
-use Rattle.fit.specs.Group.{counted}
 use Rattle.fit.specs.Cases.{take_held}
-use Rattle.choice.specs.Share.{holds, share_group, parted, share}
+use Rattle.choice.specs.Share.{share_group, parted, share}
 use Rattle.choice.specs.Gang.{parted_on, share_on, gang_node, whole_nodes, parted_nodes, gang_order, gang_nodes, shares, any_parted, gang_choice}
 use Rattle.choice.specs.Room.{shares_most, nodes_distinct}
 
@@ -30,69 +34,84 @@ or_false false = refl
 
 -- ---- the share of a node
 
-module _ (groups here counts : List ℕ) (per key : ℕ) (taken : Chosen) (r : Choice) (t : counts ≡ tally_of groups here) (k : key ≡ first (holds counts per) 257 0) where
-  found : key ≡ share_group groups per here
+-- the first place of a list that passes is the first number whose entry does
+place_first : (q : ℕ → Bool) (xs : List ℕ) → position_or_len q xs ≡ first (λ k. q (get_or xs k 0)) (length xs) 0
+place_first q xs =
+    let r : (0 ≤ first (λ k. q (get_or xs k 0)) (length xs) 0) × (first (λ k. q (get_or xs k 0)) (length xs) 0 ≤ 0 + length xs) =
+    first_range (λ k. q (get_or xs k 0)) (length xs) 0 in
+    position_or_len_is q xs (first (λ k. q (get_or xs k 0)) (length xs) 0) 0 (omega (arith, r.1))
+    (λ k h. first_before (λ k. q (get_or xs k 0)) (length xs) 0 k (omega arith) h)
+    (λ h. first_has (λ k. q (get_or xs k 0)) (length xs) 0 (omega arith))
+
+module _ (groups here counts : List ℕ) (per : ℕ) (taken : Chosen) (r : Choice) (o : Option ℕ) (t : counts ≡ tally_of groups here)
+    (p : o ≡ position (λ x. leb per x) counts) where
+  tally_length : length counts ≡ 257
+  unfolding tally_of
+  tally_length = rw t (each_length (count_of groups here) 257 0)
+
+  found : position_or_len (λ x. leb per x) counts ≡ share_group groups per here
   unfolding share_group
-  found = rw (← t) k
+  found = place_first (λ x. leb per x) counts ∙ rw (tally_length, t)
 
   -- a group has enough
-  pub share_one : (same : Chosen) → key < 257 → same ≡ chosen (with_key groups key here) → taken ≡ chosen (take per (list_of same)) →
+  pub share_one : (key : ℕ) (same : Chosen) → o ≡ Some key → same ≡ chosen (with_key groups key here) → taken ≡ chosen (take per (list_of same)) →
       r ≡ held taken false → r ≡ took (share groups per here) (parted groups per here)
   unfolding share parted
-  share_one same h s e f =
-      let h : share_group groups per here < 257 = rw found at h in
-      let s : same ≡ chosen (with_key groups (share_group groups per here) here) = rw found at s in
-      rw (lt-leb 257 (share_group groups per here) h)
+  share_one key same h s e f =
+      let c : (ltb (position_or_len (λ x. leb per x) counts) (length counts) ≡ true) × (position_or_len (λ x. leb per x) counts ≡ key) =
+      cond_some (ltb (position_or_len (λ x. leb per x) counts) (length counts)) (position_or_len (λ x. leb per x) counts) key (sym p ∙ h) in
+      let b : share_group groups per here < 257 =
+      omega (arith, found, tally_length, ltb-true (position_or_len (λ x. leb per x) counts) (length counts) c.0) in
+      let s : same ≡ chosen (with_key groups (share_group groups per here) here) = rw (← c.1, found) at s in
+      rw (lt-leb 257 (share_group groups per here) b)
       (take_held same taken (with_key groups (share_group groups per here) here) per false r s e f)
 
   -- none has
-  pub share_none : 257 ≤ key → taken ≡ chosen (take per here) → r ≡ held taken true → r ≡ took (share groups per here) (parted groups per here)
+  pub share_none : o ≡ None → taken ≡ chosen (take per here) → r ≡ held taken true → r ≡ took (share groups per here) (parted groups per here)
   unfolding share parted
   share_none h e f =
-      let h : 257 ≤ share_group groups per here = rw found at h in
-      rw (le-leb 257 (share_group groups per here) h) (f ∙ rw e)
+      split
+      (ltb (position_or_len (λ x. leb per x) counts) (length counts))
+      (λ l. absurd (none-some (position_or_len (λ x. leb per x) counts) (sym h ∙ p ∙ rw l)))
+      (λ l. let b : 257 ≤ share_group groups per here =
+      omega (arith, found, tally_length, ltb-false (position_or_len (λ x. leb per x) counts) (length counts) l) in
+      rw (le-leb 257 (share_group groups per here) b) (f ∙ rw e))
 
 -- ---- the nodes of a gang
 
-module _ (nodes groups l : List ℕ) (per k : ℕ) (here : Chosen) (e : here ≡ chosen (with_key nodes k l)) where
-  here_count : here.count ≡ count_of nodes l k
-  unfolding count_of
-  here_count = rw e
+module _ (nodes groups l counts : List ℕ) (per k : ℕ) (penalised : Bool) (t : counts ≡ tally_of nodes l) (b : k < 257)
+    (n : ℕ) (c : n ≡ get_or counts k 0) where
+  counted_here : n ≡ count_of nodes l k
+  counted_here = c ∙ rw t (Turns.tally_at nodes l k b)
 
   -- the node has not enough
-  pub node_few : (penalised : Bool) → here.count < per → false ≡ gang_node nodes groups l per penalised k
+  pub node_few : n < per → leb per n ≡ gang_node nodes groups l per penalised k
   unfolding gang_node
-  node_few penalised h = rw (lt-leb per (count_of nodes l k) (omega (arith, here_count)))
+  node_few h = rw (counted_here, lt-leb per (count_of nodes l k) (omega (arith, counted_here)))
 
-  -- it has enough, and is asked for with a penalty
-  pub node_parted : (s : Choice) → per ≤ here.count → s ≡ took (share groups per (list_of here)) (parted groups per (list_of here)) →
-      s.penalised ≡ gang_node nodes groups l per true k
+  -- it has enough, with a penalty or without
+  pub node_enough : (here : Chosen) (s : Choice) → per ≤ n → here ≡ chosen (with_key nodes k l) →
+      s ≡ took (share groups per (list_of here)) (parted groups per (list_of here)) →
+      beq s.penalised penalised ≡ gang_node nodes groups l per penalised k
   unfolding gang_node
-  node_parted s h f =
-      rw (le-leb per (count_of nodes l k) (omega (arith, here_count)), f, (Turns.held here (with_key nodes k l) e).0)
-
-  -- or without
-  pub node_whole : (s : Choice) → per ≤ here.count → s ≡ took (share groups per (list_of here)) (parted groups per (list_of here)) →
-      not s.penalised ≡ gang_node nodes groups l per false k
-  unfolding gang_node
-  node_whole s h f =
-      rw (le-leb per (count_of nodes l k) (omega (arith, here_count)), f, (Turns.held here (with_key nodes k l) e).0)
-
--- a node of which the tally says fewer is none of them
-pub node_tallied_few : (nodes groups l counts : List ℕ) (per k n : ℕ) (penalised : Bool) → counts ≡ tally_of nodes l → k < 257 →
-    n ≡ counted counts k → n < per → gang_node nodes groups l per penalised k ≡ false
-unfolding gang_node
-node_tallied_few nodes groups l counts per k n penalised t h e f =
-    let s : counted counts k ≡ count_of nodes l k = rw t (Turns.tally_at nodes l k h) in
-    rw (lt-leb per (count_of nodes l k) (omega arith))
+  node_enough here s h e f =
+      rw (le-leb per (count_of nodes l k) (omega (arith, counted_here)), f, (Turns.held here (with_key nodes k l) e).0)
+      (as_asked (parted_on nodes groups l per k) penalised)
+    where
+      as_asked : (a b : Bool) → beq a b ≡ pick b a (not a)
+      as_asked true true = refl
+      as_asked true false = refl
+      as_asked false true = refl
+      as_asked false false = refl
 
 -- the nodes without a penalty and behind them the others, the first g
 pub order_held : (nodes groups l : List ℕ) (per g : ℕ) (whole part both taken : Chosen) → whole ≡ chosen (whole_nodes nodes groups l per) →
-    part ≡ chosen (parted_nodes nodes groups l per) → both ≡ chosen (take 128 (list_of whole ++ list_of part)) → taken ≡ chosen (take g (list_of both)) →
-    taken ≡ chosen (gang_nodes nodes groups l per g)
+    part ≡ chosen (parted_nodes nodes groups l per) → both ≡ chosen (take 128 (list_of whole ++ list_of part)) →
+    taken ≡ chosen (take g (list_of both)) → taken ≡ chosen (gang_nodes nodes groups l per g)
 unfolding gang_nodes gang_order
 order_held nodes groups l per g whole part both taken a b d e =
-    let n : take 128 (whole_nodes nodes groups l per ++ parted_nodes nodes groups l per) ≡ whole_nodes nodes groups l per ++ parted_nodes nodes groups l per =
+    let n : take 128 (whole_nodes nodes groups l per ++ parted_nodes nodes groups l per) ≡
+    whole_nodes nodes groups l per ++ parted_nodes nodes groups l per =
     take_all 128 (whole_nodes nodes groups l per ++ parted_nodes nodes groups l per)
     (omega (
       arith,
@@ -150,31 +169,31 @@ module _ (nodes groups l : List ℕ) (per : ℕ) where
     its_share = rw (Turns.held here (with_key nodes (get_or ids i 0) l) e).0 at f
 
     -- a turn adds the share of the node at hand
-    pub share_turn : (all joined : Chosen) → all ≡ chosen (take 128 (shares nodes groups l per (take i ids))) →
-        joined ≡ chosen (take 128 (list_of all ++ list_of s.chosen)) → joined ≡ chosen (take 128 (shares nodes groups l per (take (i + 1) ids)))
-    share_turn all joined a j =
+    pub share_turn : (more : List ℕ) (joined : Chosen) → more ≡ list_of s.chosen →
+        joined ≡ chosen (take 128 (take 128 (shares nodes groups l per (take i ids)) ++ more)) →
+        joined ≡ chosen (take 128 (shares nodes groups l per (take (i + 1) ids)))
+    share_turn more joined a j =
         let m : s.chosen ≡ chosen (share_on nodes groups l per (get_or ids i 0)) = rw its_share in
         j ∙ rw (
-          (Turns.held all (take 128 (shares nodes groups l per (take i ids))) a).0,
+          a,
           (Turns.held s.chosen (share_on nodes groups l per (get_or ids i 0)) m).0,
           take_front 128 (shares nodes groups l per (take i ids)) (share_on nodes groups l per (get_or ids i 0)),
           shares_next ids i within,
         )
 
     -- and its penalty
-    pub parted_turn : (p q : Bool) → p ≡ any_parted nodes groups l per (take i ids) → q ≡ (p || s.penalised) → q ≡ any_parted nodes groups l per (take (i + 1) ids)
+    pub parted_turn : (p q : Bool) → p ≡ any_parted nodes groups l per (take i ids) → q ≡ (p || s.penalised) →
+        q ≡ any_parted nodes groups l per (take (i + 1) ids)
     parted_turn p q a b = b ∙ rw (a, its_share) (sym (parted_next ids i within))
 
   -- after the last node
-  pub gang_done : (g n : ℕ) (taken all : Chosen) (p : Bool) (r : Choice) → taken ≡ chosen (gang_nodes nodes groups l per g) →
-      length taken.ids ≡ 128 → n ≡ min taken.count 128 → length l ≤ 128 →
-      all ≡ chosen (take 128 (shares nodes groups l per (take n taken.ids))) → p ≡ any_parted nodes groups l per (take n taken.ids) →
-      r ≡ held all p → r ≡ gang_choice nodes groups l per g
+  pub gang_done : (g k : ℕ) (ids : List ℕ) (taken all : Chosen) (p : Bool) (r : Choice) → taken ≡ chosen (gang_nodes nodes groups l per g) →
+      ids ≡ list_of taken → length ids ≤ k → length l ≤ 128 → all ≡ chosen (take 128 (shares nodes groups l per (take k ids))) →
+      p ≡ any_parted nodes groups l per (take k ids) → r ≡ held all p → r ≡ gang_choice nodes groups l per g
   unfolding gang_choice
-  gang_done g n taken all p r t e m h a b d =
-      let k : take n taken.ids ≡ gang_nodes nodes groups l per g =
-      rw (m, take_least taken.count 128 taken.ids (omega arith)) (Turns.held taken (gang_nodes nodes groups l per g) t).0 in
+  gang_done g k ids taken all p r t e m h a b d =
+      let n : ids ≡ gang_nodes nodes groups l per g = e ∙ (Turns.held taken (gang_nodes nodes groups l per g) t).0 in
       let w : take 128 (shares nodes groups l per (gang_nodes nodes groups l per g)) ≡ shares nodes groups l per (gang_nodes nodes groups l per g) =
       take_all 128 (shares nodes groups l per (gang_nodes nodes groups l per g))
       (omega (arith, shares_most nodes groups l per (gang_nodes nodes groups l per g) (nodes_distinct nodes groups l per g))) in
-      d ∙ rw (a, b, k, w)
+      d ∙ rw (a, b, take_all k ids m, n, w)

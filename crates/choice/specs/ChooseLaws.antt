@@ -1,10 +1,11 @@
 -- The choice as a whole: room exactly where count GPUs are chosen, each eligible and none twice, and the penalty as the rules say.
-use Rattle.std.specs.Prelude.{◌≡◌, refl, Bool, ◌||◌, List, [], ℕ, ◌/◌, ◌%◌, ◌≤◌, ◌<◌, leb, eqb}
+use Rattle.std.specs.Prelude.{◌≡◌, refl, Bool, ◌||◌, List, [], ℕ, ◌/◌, ◌%◌, ◌≤◌, ◌<◌, leb, eqb, Option, Some, None, is_some}
 use Rattle.std.proofs.Math.Path.{sym}
 use Rattle.std.proofs.Common.{◌∙◌, arith}
 use Rattle.std.proofs.Math.Bool.{true, false}
 use Rattle.std.proofs.Math.Nat.{div-add-mod'}
 use Rattle.std.proofs.Math.ListN.{length}
+use Rattle.std.proofs.lemmas.Option.{none-some, same_Some}
 use borrow.Author.Tests.{leb-true, eqb-true, eqb-false}
 use Rattle.laws.specs.Choice.{pick, pick_cases}
 use Rattle.laws.specs.Tests.{split, never_both}
@@ -15,6 +16,7 @@ use Rattle.model.specs.declared.job.Ask.{Ask}
 use Rattle.eligible.specs.Keys.{node_keys, group_keys}
 use Rattle.eligible.specs.Eligible.{may_take, eligibles}
 use Rattle.eligible.specs.Laws.{eligibles_in, eligibles_distinct}
+use Rattle.fit.specs.declared.first.Choice.{Choice}
 use Rattle.fit.specs.First.{took, first_fit}
 use Rattle.fit.specs.Group.{group_choice}
 use Rattle.fit.specs.Best.{best_fit}
@@ -24,7 +26,7 @@ use Rattle.fit.specs.BestLaws.{best_right}
 use Rattle.choice.specs.Gang.{gang_nodes, gang_choice, any_parted}
 use Rattle.choice.specs.GangLaws.{gang_right}
 use Rattle.choice.specs.Why.{is_enough, is_gang, candidates, why_not_gang, why_not}
-use Rattle.choice.specs.Choose.{no_choice, choice_of, why_not_here, choose}
+use Rattle.choice.specs.Choose.{choice_of, why_not_here, choose, got_of, penalised_of}
 
 -- ---- the cause
 
@@ -120,68 +122,73 @@ module _ (nodes groups l : List ℕ) (ask : Ask) (best : Bool) where
 module _ (gpus : List Gpu) (n : ℕ) (sites : List ℕ) (ask : Ask) (best : Bool) where
   -- where there is room it is the choice among the eligible
   pub choose_room : is_enough (why_not_here gpus n sites ask) ≡ true →
-      choose gpus n sites ask best ≡ choice_of (node_keys gpus) (group_keys gpus) (eligibles gpus n sites ask) ask best
+      choose gpus n sites ask best ≡ Some (choice_of (node_keys gpus) (group_keys gpus) (eligibles gpus n sites ask) ask best)
   unfolding choose
   choose_room h = rw h
 
   -- where there is none nothing is chosen
-  pub choose_none : is_enough (why_not_here gpus n sites ask) ≡ false → choose gpus n sites ask best ≡ no_choice
+  pub choose_none : is_enough (why_not_here gpus n sites ask) ≡ false → choose gpus n sites ask best ≡ None
   unfolding choose
   choose_none h = rw h
 
-  -- with room it is a right choice
-  pub choose_right : is_enough (why_not_here gpus n sites ask) ≡ true → Right (eligibles gpus n sites ask) ask.count (choose gpus n sites ask best)
-  unfolding why_not_here
-  choose_right h =
-      rw (choose_room h)
-      (choice_right (node_keys gpus) (group_keys gpus) (eligibles gpus n sites ask) ask best (eligibles_distinct gpus n sites ask) h)
-
-  -- enough says exactly that nothing stands against the job
-  pub choose_enough : (choose gpus n sites ask best).enough ≡ is_enough (why_not_here gpus n sites ask)
+  -- there is a choice exactly where nothing stands against the job
+  pub choose_enough : is_some (choose gpus n sites ask best) ≡ is_enough (why_not_here gpus n sites ask)
   choose_enough =
       split
       (is_enough (why_not_here gpus n sites ask))
-      (λ h. (choose_right h).room ∙ sym h)
+      (λ h. rw (choose_room h, h))
       (λ h. rw (choose_none h, h))
 
-  -- the GPUs chosen are among the first n, and each may be taken
-  pub choose_each : All (λ k. (k < n) × (k < 128) × (may_take gpus sites ask k ≡ true)) (got (choose gpus n sites ask best))
-  choose_each =
+  -- without room no GPU is chosen, and there is no penalty
+  pub choose_nothing : is_some (choose gpus n sites ask best) ≡ false →
+      (got_of (choose gpus n sites ask best) ≡ []) × (penalised_of (choose gpus n sites ask best) ≡ false)
+  choose_nothing h =
+      let e : is_enough (why_not_here gpus n sites ask) ≡ false = sym choose_enough ∙ h in
+      (rw (choose_none e), rw (choose_none e))
+
+  -- and it is a right one
+  pub choose_right : (c : Choice) → choose gpus n sites ask best ≡ Some c → Right (eligibles gpus n sites ask) ask.count c
+  unfolding why_not_here
+  choose_right c e =
       split
       (is_enough (why_not_here gpus n sites ask))
-      (λ h. all_weaken
-      (λ k. has k (eligibles gpus n sites ask) ≡ true)
-      (λ k. (k < n) × (k < 128) × (may_take gpus sites ask k ≡ true))
-      (got (choose gpus n sites ask best))
-      (λ k a. eligibles_in gpus n sites ask k a)
-      (choose_right h).inside)
-      (λ h. rw (choose_none h) tt)
+      (λ h. rw (same_Some _ _ (sym e ∙ choose_room h))
+      (choice_right (node_keys gpus) (group_keys gpus) (eligibles gpus n sites ask) ask best (eligibles_distinct gpus n sites ask) h))
+      (λ h. absurd (none-some c (sym (choose_none h) ∙ e)))
+
+  -- the GPUs chosen are among the first n, and each may be taken
+  pub choose_each : All (λ k. (k < n) × (k < 128) × (may_take gpus sites ask k ≡ true)) (got_of (choose gpus n sites ask best))
+  choose_each = each (choose gpus n sites ask best) refl
+    where
+      each : (r : Option Choice) → choose gpus n sites ask best ≡ r → All (λ k. (k < n) × (k < 128) × (may_take gpus sites ask k ≡ true)) (got_of r)
+      each None e = tt
+      each (Some c) e =
+          all_weaken
+          (λ k. has k (eligibles gpus n sites ask) ≡ true)
+          (λ k. (k < n) × (k < 128) × (may_take gpus sites ask k ≡ true))
+          (got c)
+          (λ k a. eligibles_in gpus n sites ask k a)
+          (choose_right c e).inside
 
   -- none is chosen twice
-  pub choose_distinct : Distinct (got (choose gpus n sites ask best))
-  choose_distinct =
-      split
-      (is_enough (why_not_here gpus n sites ask))
-      (λ h. (choose_right h).once)
-      (λ h. rw (choose_none h) tt)
+  pub choose_distinct : Distinct (got_of (choose gpus n sites ask best))
+  choose_distinct = once (choose gpus n sites ask best) refl
+    where
+      once : (r : Option Choice) → choose gpus n sites ask best ≡ r → Distinct (got_of r)
+      once None e = tt
+      once (Some c) e = (choose_right c e).once
 
-  -- with room as many as asked are chosen, and at least one
-  pub choose_count : (choose gpus n sites ask best).enough ≡ true → (0 < ask.count) × (length (got (choose gpus n sites ask best)) ≡ ask.count)
+  -- where there is a choice as many as asked are chosen, and at least one
+  pub choose_count : is_some (choose gpus n sites ask best) ≡ true → (0 < ask.count) × (length (got_of (choose gpus n sites ask best)) ≡ ask.count)
   unfolding why_not_here
   choose_count h =
       let e : is_enough (why_not_here gpus n sites ask) ≡ true = sym choose_enough ∙ h in
-      (room_count (node_keys gpus) (eligibles gpus n sites ask) ask e, (choose_right e).size)
+      (room_count (node_keys gpus) (eligibles gpus n sites ask) ask e, rw (choose_room e) (choose_right _ (choose_room e)).size)
 
-  -- and where as many as asked are chosen, and at least one, there is room
-  pub choose_counted : 0 < ask.count → length (got (choose gpus n sites ask best)) ≡ ask.count → (choose gpus n sites ask best).enough ≡ true
+  -- and where as many as asked are chosen, and at least one, there is a choice
+  pub choose_counted : 0 < ask.count → length (got_of (choose gpus n sites ask best)) ≡ ask.count → is_some (choose gpus n sites ask best) ≡ true
   choose_counted a b =
       split
       (is_enough (why_not_here gpus n sites ask))
       (λ h. choose_enough ∙ h)
-      (λ h. let z : length (got no_choice) ≡ ask.count = rw (choose_none h) at b in absurd (omega arith))
-
-  -- without room no GPU is chosen, and there is no penalty
-  pub choose_nothing : (choose gpus n sites ask best).enough ≡ false → (got (choose gpus n sites ask best) ≡ []) × ((choose gpus n sites ask best).penalised ≡ false)
-  choose_nothing h =
-      let e : is_enough (why_not_here gpus n sites ask) ≡ false = sym choose_enough ∙ h in
-      (rw (choose_none e), rw (choose_none e))
+      (λ h. let z : length (got_of None) ≡ ask.count = rw (choose_none h) at b in absurd (omega arith))

@@ -1,38 +1,33 @@
 // The gang choice: the nodes that a gang takes, and its share of each.
 
-ghost use Rattle.std.specs.Prelude.{◌≡◌, []};
+ghost use Rattle.std.specs.Prelude.{◌≡◌, ◌<◌};
 ghost use Rattle.laws.specs.Search.{those};
-ghost use Rattle.eligible.specs.Chosen.{chosen, list_of};
+ghost use Rattle.eligible.specs.Chosen.{chosen, list_of, tally_of};
 ghost use Rattle.choice.specs.Gang.{gang_node, gang_nodes, gang_choice};
 
 use crate::share::node_share;
-use eligible::chosen::{Chosen, append, first_of, no_ids, tally, with_key};
+use eligible::chosen::{Chosen, KEYS, append, first_of, tally, those, with_key};
 use fit::first::{Choice, take_these};
-use fit::group::counted_at;
 use model::sizes::{GPUS, NODES};
-use small::{either, lesser};
 
-// The node k has enough for the gang, with a penalty or without, as asked.
+// The node k, of which counts says how many it has, has enough for the gang, with a penalty or without, as asked.
+#[tactic(auto, using(crate::specs::Cases::node_few, crate::specs::Cases::node_enough))]
 fn is_gang_node(
     e: Chosen,
+    counts: &[u16; KEYS],
     nodes: [u16; GPUS],
     groups: [u16; GPUS],
     per: usize,
     penalised: bool,
-    k: u16,
+    k: usize,
 ) -> bool
+    requires counts_are { counts.now ≡ tally_of nodes (list_of e) }
+    requires counted { k < 257 }
     ensures { result ≡ gang_node nodes groups (list_of e) per penalised k }
 {
-    let here = with_key(e, nodes, k);
-    let n = here.count;
-    if n < per {
-        return false;
-    }
-    let s = node_share(here, groups, per);
-    if penalised {
-        return s.penalised;
-    }
-    !s.penalised
+    // most nodes fall out at the count
+    per <= usize::from(counts[k])
+        && node_share(with_key(e, nodes, k as u16), groups, per).penalised == penalised
 }
 
 // Those nodes, by number.
@@ -46,39 +41,19 @@ fn those_nodes(
     ensures { result ≡ chosen (those (gang_node nodes groups (list_of e) per penalised) 32 0) }
 {
     let counts = tally(e, nodes);
-    let mut ids = no_ids();
-    let mut k: usize = 0;
-    let mut i: usize = 0;
-    while i < NODES {
-        let node = i as u16;
-        // most nodes fall out here
-        if per <= counted_at(&counts, i) {
-            if is_gang_node(e, nodes, groups, per, penalised, node) {
-                ids[k] = node;
-                k = k + 1;
-            }
-        }
-        i = i + 1;
-    }
-    Chosen { ids: ids, count: k }
+    those(NODES, |k| {
+        is_gang_node(e, &counts, nodes, groups, per, penalised, k)
+    })
 }
 
 // The g nodes that the gang takes: those without a penalty first, then by number.
+#[tactic(auto, using(crate::specs::Cases::order_held))]
 fn gang_nodes(e: Chosen, nodes: [u16; GPUS], groups: [u16; GPUS], per: usize, g: usize) -> Chosen
     ensures { result ≡ chosen (gang_nodes nodes groups (list_of e) per g) }
 {
     let whole = those_nodes(e, nodes, groups, per, false);
     let part = those_nodes(e, nodes, groups, per, true);
     first_of(append(whole, part), g)
-}
-
-pub fn no_chosen() -> Chosen
-    ensures { result ≡ chosen [] }
-{
-    Chosen {
-        ids: no_ids(),
-        count: 0,
-    }
 }
 
 // The gang's share of each of its nodes; one with a penalty penalises the job.
@@ -92,18 +67,12 @@ pub fn gang_choice(
     ensures { result ≡ gang_choice nodes groups (list_of e) per g }
 {
     let taken = gang_nodes(e, nodes, groups, per, g);
-    let ids = taken.ids;
-    let n = lesser(taken.count, GPUS);
-    let mut all = no_chosen();
+    let mut all = Chosen::new();
     let mut penalised = false;
-    let mut i: usize = 0;
-    while i < n {
-        let s = node_share(with_key(e, nodes, ids[i]), groups, per);
-        let more = s.chosen;
-        let joined = append(all, more);
-        all = joined;
-        penalised = either(penalised, s.penalised);
-        i = i + 1;
+    for k in taken.numbers() {
+        let share = node_share(with_key(e, nodes, *k), groups, per);
+        all.extend(share.chosen.numbers());
+        penalised |= share.penalised;
     }
     take_these(all, penalised)
 }

@@ -4,5 +4,4 @@ pub mod GpusLaws
 pub mod Queue
 pub mod QueueLaws
 pub mod Usage
-pub mod UsageSteps
 pub mod UsageLaws

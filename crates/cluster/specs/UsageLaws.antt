@@ -1,12 +1,15 @@
--- How a write to a job changes a tenant's usage.
-use Rattle.std.specs.Prelude.{◌≡◌, refl, true, false, List, ℕ, ◌+◌, ◌<◌, ◌≤◌, eqb, length, get_or, take, set}
-use Rattle.std.proofs.Common.{sym, arith, length-take, get_or-take, eq-eqb, ne_eqb}
+-- How a tenant's usage is added up, and how a write to a job changes it.
+use Rattle.std.specs.Prelude.{◌≡◌, refl, true, false, List, ℕ, ◌+◌, ◌<◌, ◌≤◌, min, eqb, length, get_or, take, set}
+use Rattle.std.specs.List.{sum_by}
+use Rattle.std.proofs.Common.{sym, ap, ◌∙◌, arith, length-take, get_or-take, eq-eqb, ne_eqb}
 use Rattle.std.proofs.Math.Seq.{take-set-lt}
 use Rattle.std.proofs.lemmas.List.{take-set-le}
 use Rattle.laws.specs.Tests.{and_left, and_right, both_and}
 use Rattle.laws.specs.Sums.{sum_over, sum_set}
+use Rattle.laws.specs.Tables.{take_least}
 use Rattle.model.specs.Job.{no_job}
 use Rattle.model.specs.declared.job.Job.{Job}
+use Rattle.mig.specs.More.{sum_by_over}
 use Rattle.cluster.specs.Usage.{holding, charge_of, charge_to, usage, charge_held, charge_free}
 
 -- a job that holds something costs its tenant its charge
@@ -37,3 +40,9 @@ usage_set jobs n tenant i j h k =
 pub usage_past : (jobs : List Job) (n tenant i : ℕ) (j : Job) → n ≤ i → usage (set jobs i j) n tenant ≡ usage jobs n tenant
 unfolding usage
 usage_past jobs n tenant i j h = rw (take-set-le n jobs i j h)
+
+-- the charges of the first jobs, as many as a table holds, make the usage
+pub usage_sum : (jobs : List Job) (n tenant : ℕ) → length jobs ≡ 128 → sum_by (charge_to tenant) (take (min n 128) jobs) ≡ usage jobs n tenant
+unfolding usage
+usage_sum jobs n tenant l =
+    sum_by_over (charge_to tenant) (take (min n 128) jobs) ∙ ap (sum_over (charge_to tenant)) (take_least n 128 jobs (omega arith))

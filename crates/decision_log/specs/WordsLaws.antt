@@ -1,8 +1,7 @@
 -- How the words of the decisions come to stand in front of a buffer, decision after decision.
-use Rattle.std.specs.Prelude.{◌≡◌, refl, List, [], ◌∷◌, ◌++◌, ℕ, suc, ◌+◌, ◌*◌, ◌<◌, ◌≤◌, min, length, get_or, take, drop, set}
-use Rattle.std.proofs.Common.{ap, ◌∙◌, ⊎_elim, append_assoc, arith, add-one, length-append, length-drop, drop-cons, take-suc, take_all, length-take-le}
+use Rattle.std.specs.Prelude.{◌≡◌, refl, List, [], ◌∷◌, ◌++◌, ℕ, suc, ◌+◌, ◌*◌, ◌<◌, ◌≤◌, length, get_or, take, drop, set}
+use Rattle.std.proofs.Common.{ap, ◌∙◌, append_assoc, arith, add-one, length-append, drop-cons, take-suc, take_all, length-take-le}
 use Rattle.std.proofs.Math.Seq.{set-append_seam}
-use Rattle.laws.specs.Tests.{le_or_lt}
 use Rattle.decision_log.specs.Log.{kind_word, words_of, words}
 use Rattle.decision_log.specs.Words.{over, put_words}
 use Rattle.decision_log.specs.declared.Decision.{Decision}
@@ -62,24 +61,7 @@ words_turn table out before i d h k e =
     let m : 4 * (i + 1) ≡ 4 * i + 4 = omega arith in
     rw (e, m, add-one i, take-suc table i d h, words_snoc (take i table) (get_or table i d)) (put_four (words (take i table)) before (4 * i) (get_or table i d) n k)
 
--- the buffer stays as long as it was
-pub words_size : (table : List Decision) (out before : List ℕ) (i : ℕ) → i ≤ length table → 4 * i ≤ length before →
-    out ≡ words (take i table) ++ drop (4 * i) before → length out ≡ length before
-words_size table out before i h k e =
-    let n : length (words (take i table)) ≡ 4 * i = words_length (take i table) ∙ ap (λ (m : ℕ). 4 * m) (length-take-le i table h) in
-    rw e (omega (arith, n, length-append (words (take i table)) (drop (4 * i) before), length-drop (4 * i) before))
-
 -- past the last decision all stand in front
-pub words_done : (table : List Decision) (out before : List ℕ) (count n i : ℕ) → length table ≡ 129 → n ≡ min count 129 → i ≡ n →
-    out ≡ words (take i table) ++ drop (4 * i) before → out ≡ over (words (take count table)) before
-words_done table out before count n i l m e h =
-    let t : take i table ≡ take count table = take_part table count n i l m e in
-    let k : length (words (take i table)) ≡ 4 * i = words_length (take i table) ∙ ap (λ (x : ℕ). 4 * x) (length-take-le i table (omega arith)) in
-    h ∙ rw (← k, t)
-  where
-    take_part : (table : List Decision) (count n i : ℕ) → length table ≡ 129 → n ≡ min count 129 → i ≡ n → take i table ≡ take count table
-    take_part table count n i l m e =
-        ⊎_elim
-        (λ a. let q : i ≡ count = omega arith in rw q)
-        (λ a. rw (take_all i table (omega arith), take_all count table (omega arith)))
-        (le_or_lt count 129)
+pub words_done : (table : List Decision) (out before : List ℕ) (i : ℕ) → i ≡ length table → out ≡ words (take i table) ++ drop (4 * i) before →
+    out ≡ over (words table) before
+words_done table out before i e h = h ∙ rw (e, take_all (length table) table (omega arith), words_length table)

@@ -4,17 +4,18 @@
 
 pub mod words;
 
-ghost use Rattle.std.specs.Prelude.{◌≡◌, set};
+ghost use Rattle.std.specs.Prelude.{◌≡◌};
 ghost use Rattle.decision_log.specs.Log.{no_decision, empty_log, kind_word, told};
 
 use small::onward;
+use tables::{Entry, put};
 
 // At most: the event's own, and one for each job.
 pub const DECISIONS: usize = 129;
 
 #[derive(Clone, Copy)]
 pub enum Kind {
-    Arrived,
+    Arrived = 1,
     Failed,
     Completed,
     Evicted,
@@ -37,49 +38,43 @@ pub struct Log {
     pub count: usize,
 }
 
-pub fn no_decision() -> Decision
-    ensures { result ≡ no_decision }
-{
-    Decision {
-        time: 0,
-        kind: Kind::Arrived,
-        job: 0,
-        other: 0,
+impl Entry for Decision {
+    ghost none = { no_decision };
+
+    #[tactic(auto, unfolding(crate::specs::Log::no_decision))]
+    fn none() -> Decision {
+        Decision {
+            time: 0,
+            kind: Kind::Arrived,
+            job: 0,
+            other: 0,
+        }
     }
 }
 
+#[tactic(auto, unfolding(crate::specs::Log::empty_log))]
 pub fn empty_log() -> Log
     ensures { result ≡ empty_log }
 {
     Log {
-        table: [no_decision(); DECISIONS],
+        table: [Decision::none(); DECISIONS],
         count: 0,
     }
 }
 
-fn put_decision(table: [Decision; DECISIONS], i: usize, d: Decision) -> [Decision; DECISIONS]
-    ensures { result ≡ set table i d }
-{
-    let mut after = table;
-    if i < DECISIONS {
-        after[i] = d;
-    }
-    after
-}
-
 // The log with one more decision; a full one stays as it is.
+#[tactic(auto, unfolding(crate::specs::Log::told))]
 pub fn tell(log: Log, time: u64, kind: Kind, job: u16, other: u16) -> Log
     ensures { result ≡ told log time kind job other }
 {
-    let table = log.table;
     let told = Decision {
-        time: time,
-        kind: kind,
-        job: job,
-        other: other,
+        time,
+        kind,
+        job,
+        other,
     };
     Log {
-        table: put_decision(table, log.count, told),
+        table: put(log.table, log.count, told),
         count: onward(log.count, DECISIONS),
     }
 }
@@ -88,27 +83,11 @@ pub fn tell(log: Log, time: u64, kind: Kind, job: u16, other: u16) -> Log
 pub fn first_log(time: u64, kind: Kind, job: u16, other: u16) -> Log
     ensures { result ≡ told empty_log time kind job other }
 {
-    let mut table = [no_decision(); DECISIONS];
-    table[0] = Decision {
-        time: time,
-        kind: kind,
-        job: job,
-        other: other,
-    };
-    Log {
-        table: table,
-        count: 1,
-    }
+    tell(empty_log(), time, kind, job, other)
 }
 
 pub fn kind_word(kind: Kind) -> u64
     ensures { result ≡ kind_word kind }
 {
-    match kind {
-        Kind::Arrived => 1,
-        Kind::Failed => 2,
-        Kind::Completed => 3,
-        Kind::Evicted => 4,
-        Kind::Started => 5,
-    }
+    kind as u64
 }

@@ -1,24 +1,20 @@
 -- More general laws on lists: fronts, filters, images, and tables made of a function.
 use Rattle.std.specs.Prelude.{◌≡◌, Bool, true, false, length, get_or, take, set, replicate}
+use Rattle.std.specs.Array.{MapsFrom, IsMapOf}
+use Rattle.std.specs.Fn.{Called}
+use denote.Param.Members.{Mut}
+use Rattle.std.proofs.lemmas.List.{length-map, get_or-map}
 use Rattle.std.proofs.Math.Path.{refl, ap}
-use Rattle.std.proofs.Common.{sym, ◌∙◌, ⊎_elim, add-one, length-take, length-set, take-suc, take_all, take-take, ext_get_or, get_or-set_same, get_or-set_other}
+use Rattle.std.proofs.Common.{sym, subst, ◌∙◌, ⊎_elim, add-one, length-set, take-suc, ext_get_or, get_or-set_same, get_or-set_other}
 use mathlib.Core.List.{List, [], ◌∷◌, ◌++◌, map, append-nil}
-use Prim.Native.Nat.{ℕ, zero, suc, ◌+◌, ◌-◌, ◌≤◌, ◌<◌, min}
+use Prim.Native.Nat.{ℕ, zero, suc, ◌+◌, ◌-◌, ◌≤◌, ◌<◌}
 use native.Mathlib.Omega.{arith}
 use Rattle.std.proofs.Math.Seq.{take-append-add}
-use Rattle.laws.specs.Tests.{split, le_or_lt, eq_or_ne}
+use Rattle.laws.specs.Tests.{split, eq_or_ne}
 use Rattle.laws.specs.Lists.{All}
 use Rattle.laws.specs.Sort.{only}
 
 -- ---- fronts
-
--- the front of a front
-pub take_both : {A : Type 0} (m n : ℕ) (l : List A) → take m (take n l) ≡ take (min n m) l
-take_both m n l =
-    ⊎_elim
-    (λ a. let e : min n m ≡ m = omega arith in rw (e, take-take m n l a))
-    (λ a. let e : min n m ≡ n = omega arith in rw e (take_all m (take n l) (simp length-take (omega arith))))
-    (le_or_lt m n)
 
 -- one more
 pub take_next : {A : Type 0} (l : List A) (i : ℕ) (d : A) → i < length l → take (i + 1) l ≡ take i l ++ (get_or l i d ∷ [])
@@ -72,6 +68,32 @@ map_append f (x ∷ l) r = rw (map_append f l r)
 -- one more
 pub map_next : {A B : Type 0} (f : A → B) (l : List A) (i : ℕ) (d : A) → i < length l → map f (take (i + 1) l) ≡ map f (take i l) ++ (f (get_or l i d) ∷ [])
 map_next f l i d h = rw (take_next l i d h, map_append f (take i l) (get_or l i d ∷ []))
+
+-- ---- an array's `map`
+
+module _ {F A B : Type 0} (g : Mut F (A × Unit {0}) B) (f : A → B) {q : F}
+    (h : (x : A) (y : B) (r : F) → Called g q (x, tt) y r → (y ≡ f x) × (r ≡ q)) where
+  maps_at : (xs : List A) (ys : List B) (i n : ℕ) → MapsFrom g q xs ys i n → (j : ℕ) (d : A) (e : B) → j < n →
+      get_or ys (i + j) e ≡ f (get_or xs (i + j) d)
+  maps_at xs ys i zero m j d e b = absurd (omega arith)
+  maps_at xs ys i (suc n) m zero d e b =
+      let z : i + 0 ≡ i = omega arith in rw z (m.4.1 e ∙ (h m.1 m.2 m.0 m.5).0 ∙ sym (ap f (m.3.1 d)))
+  maps_at xs ys i (suc n) m (suc j) d e b =
+      let z : i + suc j ≡ i + 1 + j = omega arith in
+      let t : MapsFrom g q xs ys (i + 1) n = subst (λ (z : F). MapsFrom g z xs ys (i + 1) n) (h m.1 m.2 m.0 m.5).1 m.6 in
+      rw z (maps_at xs ys (i + 1) n t j d e (omega arith))
+
+  -- where each call gives f of the element, the images of all
+  pub map_is : (d : A) (e : B) (xs : List A) (ys : List B) (n : ℕ) → length xs ≡ n → IsMapOf g q xs ys n → ys ≡ map f xs
+  map_is d e xs ys n m w =
+      ext_get_or
+      e
+      ys
+      (map f xs)
+      (w.long ∙ sym m ∙ sym (length-map xs f))
+      (λ i b. let z : 0 + i ≡ i = omega arith in
+      let t : get_or ys i e ≡ f (get_or xs i d) = rw z at (maps_at xs ys 0 n w.each i d e (omega (arith, w.long))) in
+      t ∙ sym (get_or-map f xs i d e (omega (arith, w.long))))
 
 -- ---- tables made of a function
 

@@ -1,19 +1,15 @@
 -- A turn of each loop over a list of GPU numbers.
-use Rattle.std.specs.Prelude.{◌≡◌, refl, Bool, true, false, List, [], ◌∷◌, ◌++◌, map, ℕ, ◌+◌, ◌-◌, ◌≤◌, ◌<◌, min, length, get_or, take, set, replicate}
+use Rattle.std.specs.Prelude.{◌≡◌, refl, Bool, true, false, List, [], ◌∷◌, ◌++◌, map, ℕ, zero, suc, ◌+◌, ◌-◌, ◌≤◌, ◌<◌, min, length, get_or, take, set, replicate}
 use Rattle.std.proofs.Math.Path.{sym}
-use Rattle.std.proofs.Common.{ap, ◌∙◌, append_assoc, append-nil, arith, length-append, take_all, length-take-le, eq-eqb, ne_eqb}
+use Rattle.std.proofs.Common.{⊎_elim, ap, ◌∙◌, append_assoc, append-nil, arith, length-append, take_all, eq-eqb, ne_eqb}
 use Rattle.std.proofs.Math.ListN.{length-take}
 use Rattle.std.proofs.lemmas.List.{length-map}
 use Rattle.laws.specs.Lists.{pad, pad_set, pad_full, pad_take}
 use Rattle.laws.specs.Search.{those, those_length, those_next_take, those_next_skip}
 use Rattle.laws.specs.Sort.{only}
-use Rattle.eligible.specs.More.{take_next, take_both, take_past, each_const, only_length, only_take, only_skip, map_next, each, each_same, each_set, each_get, each_length}
+use Rattle.laws.specs.Tests.{le_or_lt}
+use Rattle.eligible.specs.More.{take_next, take_past, each_const, only_length, only_take, only_skip, map_next, each, each_same, each_set, each_get, each_length}
 use Rattle.laws.specs.Tables.{past_read, take_least}
-use Rattle.model.specs.Gpu.{no_gpu}
-use Rattle.model.specs.declared.gpu.Gpu.{Gpu}
-use Rattle.model.specs.declared.job.Ask.{Ask}
-use Rattle.eligible.specs.Rule.{eligible}
-use Rattle.eligible.specs.Eligible.{may_take}
 use Rattle.eligible.specs.declared.chosen.Chosen.{Chosen}
 use Rattle.eligible.specs.Chosen.{chosen, list_of, keyed, with_key, count_of, tally_of}
 
@@ -38,34 +34,76 @@ kept_add ids k x l h r =
 pub kept_done : (ids : List ℕ) (k : ℕ) (l : List ℕ) → Kept ids k l → record { ids = ids; count = k } ≡ chosen l
 kept_done ids k l r = rw (r.table, r.size)
 
--- ---- those with a key
+-- ---- one more number
 
-module _ (keys : List ℕ) (key : ℕ) (from : List ℕ) (i : ℕ) (within : i < length from) (below : i < 128) where
-  -- no more are kept than were looked at
-  with_room : length (with_key keys key (take i from)) < 128
-  unfolding with_key
-  with_room = omega (arith, only_length (keyed keys key) (take i from), length-take i from)
+-- with room it stands behind the others
+pub push_room : (ids : List ℕ) (k x : ℕ) (l : List ℕ) → record { ids = ids; count = k } ≡ chosen l → k < 128 →
+    record { ids = set ids k x; count = k + 1 } ≡ chosen (take 128 (l ++ (x ∷ [])))
+push_room ids k x l e h =
+    let r : Kept ids k l = record { table = ap (λ (c : Chosen). c.ids) e; size = ap (λ (c : Chosen). c.count) e } in
+    let t : take 128 (l ++ (x ∷ [])) ≡ l ++ (x ∷ []) = take_all 128 (l ++ (x ∷ [])) (omega (arith, r.size, length-append l (x ∷ []))) in
+    rw t (kept_done (set ids k x) (k + 1) (l ++ (x ∷ [])) (kept_add ids k x l (omega (arith, r.size)) r))
 
+-- without it nothing changes
+pub push_full : (c : Chosen) (x : ℕ) (l : List ℕ) → c ≡ chosen l → length c.ids ≡ 128 → 128 ≤ c.count → c ≡ chosen (take 128 (l ++ (x ∷ [])))
+push_full c x l e m h =
+    let k : c.count ≡ length l = ap (λ (c : Chosen). c.count) e in
+    let t : c.ids ≡ l = ap (λ (c : Chosen). c.ids) e ∙ pad_full 128 0 l (omega arith) in
+    let n : 128 - length l ≡ 0 = omega arith in
+    let q : take 128 (l ++ (x ∷ [])) ≡ l = take_past 128 l (x ∷ []) (omega (arith, ap length t)) ∙ rw (n, append-nil) in
+    rw q e
+
+-- a list that is not full takes it
+pub pushed : (c : Chosen) (l : List ℕ) (x : ℕ) → length l < 128 → c ≡ chosen (take 128 (l ++ (x ∷ []))) → c ≡ chosen (l ++ (x ∷ []))
+pushed c l x h e =
+    let t : take 128 (l ++ (x ∷ [])) ≡ l ++ (x ∷ []) = take_all 128 (l ++ (x ∷ [])) (omega (arith, length-append l (x ∷ []))) in rw t at e
+
+-- ---- a list behind another
+
+take_again : (n : ℕ) (l r : List ℕ) → take n (take n l ++ r) ≡ take n (l ++ r)
+take_again zero l r = refl
+take_again (suc n) [] r = refl
+take_again (suc n) (x ∷ l) r = ap (λ (k : List ℕ). x ∷ k) (take_again n l r)
+
+-- nothing yet
+pub extend_none : (c : Chosen) (l : List ℕ) → length c.ids ≡ 128 → c ≡ chosen l → c ≡ chosen (take 128 (l ++ []))
+extend_none c l m e =
+    ⊎_elim
+    (λ h. let t : take 128 l ≡ l = take_all 128 l h in rw (append-nil, t) e)
+    (λ h. let k : c.count ≡ length l = ap (λ (c : Chosen). c.count) e in
+    let t : c.ids ≡ l = ap (λ (c : Chosen). c.ids) e ∙ pad_full 128 0 l (omega arith) in
+    absurd (omega (arith, ap length t)))
+    (le_or_lt (length l) 128)
+
+-- a turn that puts one more behind
+pub extend_turn : (c d : Chosen) (l more : List ℕ) (i : ℕ) → i < length more → c ≡ chosen (take 128 (l ++ take i more)) →
+    ((r : List ℕ) → c ≡ chosen r → d ≡ chosen (take 128 (r ++ (get_or more i 0 ∷ [])))) → d ≡ chosen (take 128 (l ++ take (i + 1) more))
+extend_turn c d l more i h e f =
+    f (take 128 (l ++ take i more)) e ∙ rw (
+      take_again 128 (l ++ take i more) (get_or more i 0 ∷ []),
+      take_next more i 0 h,
+      append_assoc l (take i more) (get_or more i 0 ∷ []),
+    )
+
+-- the front of a list, put behind nothing
+pub front_is : (count k : ℕ) (l : List ℕ) → length l ≤ 128 → k ≡ min count (length l) → take 128 ([] ++ take k l) ≡ take count l
+front_is count k l h e =
+    let s : take k l ≡ take count l = rw e (take_least count (length l) l (omega arith)) in
+    rw s (take_all 128 (take count l) (omega (arith, length-take count l)))
+
+-- ---- those that pass a test
+
+module _ (p : ℕ → Bool) (l : List ℕ) (i : ℕ) (within : i < length l) where
   -- a turn that keeps the number at hand
-  pub with_take : (ids : List ℕ) (k : ℕ) → get_or keys (get_or from i 0) 0 ≡ key → Kept ids k (with_key keys key (take i from)) →
-      Kept (set ids k (get_or from i 0)) (k + 1) (with_key keys key (take (i + 1) from))
-  unfolding with_key
-  with_take ids k t r =
-      rw (only_take (keyed keys key) from i 0 within (eq-eqb (get_or keys (get_or from i 0) 0) key t))
-      (kept_add ids k (get_or from i 0) (with_key keys key (take i from)) with_room r)
+  pub only_turn_take : (c d : Chosen) → length l ≤ 128 → p (get_or l i 0) ≡ true → c ≡ chosen (only p (take i l)) →
+      ((r : List ℕ) → c ≡ chosen r → d ≡ chosen (take 128 (r ++ (get_or l i 0 ∷ [])))) → d ≡ chosen (only p (take (i + 1) l))
+  only_turn_take c d h t e f =
+      rw (only_take p l i 0 within t)
+      (pushed d (only p (take i l)) (get_or l i 0) (omega (arith, only_length p (take i l), length-take i l)) (f (only p (take i l)) e))
 
   -- a turn that does not
-  pub with_skip : (ids : List ℕ) (k : ℕ) → (get_or keys (get_or from i 0) 0 ≡ key → ⊥) → Kept ids k (with_key keys key (take i from)) →
-      Kept ids k (with_key keys key (take (i + 1) from))
-  unfolding with_key
-  with_skip ids k t r =
-      rw (only_skip (keyed keys key) from i 0 within (ne_eqb (get_or keys (get_or from i 0) 0) key t)) r
-
--- a table with a number below the table's size has room for one more
-pub kept_size : (ids : List ℕ) (k : ℕ) (keys : List ℕ) (key i : ℕ) (from : List ℕ) → Kept ids k (with_key keys key (take i from)) → k ≤ i
-unfolding with_key
-kept_size ids k keys key i from r =
-    omega (arith, r.size, only_length (keyed keys key) (take i from), length-take i from)
+  pub only_turn_skip : (c : Chosen) → p (get_or l i 0) ≡ false → c ≡ chosen (only p (take i l)) → c ≡ chosen (only p (take (i + 1) l))
+  only_turn_skip c t e = rw (only_skip p l i 0 within t) e
 
 -- ---- how many have each key
 
@@ -135,34 +173,11 @@ tally_small keys from t i k h r =
 store : (t l : List ℕ) (x i : ℕ) → length l ≡ i → i < 128 → t ≡ pad 128 0 l → set t i x ≡ pad 128 0 (l ++ (x ∷ []))
 store t l x i e h r = rw (r, ← e) (pad_set 128 0 l x (omega arith))
 
--- a turn that copies
-pub copy_turn : (t from : List ℕ) (i : ℕ) → i < length from → i < 128 → t ≡ pad 128 0 (take i from) → set t i (get_or from i 0) ≡ pad 128 0 (take (i + 1) from)
-copy_turn t from i h b r =
-    rw (take_next from i 0 h) (store t (take i from) (get_or from i 0) i (omega (arith, length-take i from)) b r)
-
--- the first of a list, copied
-pub copy_done : (ids from : List ℕ) (n a b : ℕ) → length from ≡ 128 → n ≡ min (min a 128) b → ids ≡ pad 128 0 (take n from) →
-    record { ids = ids; count = n } ≡ chosen (take b (take a from))
-copy_done ids from n a b e h r =
-    let m : min (min a 128) b ≡ min (min a b) 128 = omega arith in
-    let s : take n from ≡ take b (take a from) = rw (h, m, take_both b a from) (take_least (min a b) 128 from (omega arith)) in
-    let k : n ≡ length (take n from) = omega (arith, length-take n from) in
-    rw (r, ← s) (ap (λ (m : ℕ). record { ids = pad 128 0 (take n from); count = m }) k)
-
--- a whole table, copied
-pub copy_all : (t from : List ℕ) (i : ℕ) → length from ≡ 128 → 128 ≤ i → t ≡ pad 128 0 (take i from) → t ≡ from
-copy_all t from i e h r = r ∙ rw (take_all i from (omega arith)) (pad_full 128 0 from (omega arith))
-
 -- a turn that stores the image of an element
 pub map_turn : {A : Type 0} (f : A → ℕ) (t : List ℕ) (l : List A) (i : ℕ) (d : A) → i < length l → i < 128 → t ≡ pad 128 0 (map f (take i l)) →
     set t i (f (get_or l i d)) ≡ pad 128 0 (map f (take (i + 1) l))
 map_turn f t l i d h b r =
     rw (map_next f l i d h) (store t (map f (take i l)) (f (get_or l i d)) i (length-map (take i l) f ∙ omega (arith, length-take i l)) b r)
-
--- the images of a whole table
-pub map_done : {A : Type 0} (f : A → ℕ) (t : List ℕ) (l : List A) (i : ℕ) → length l ≡ 128 → 128 ≤ i → t ≡ pad 128 0 (map f (take i l)) → t ≡ map f l
-map_done f t l i e h r =
-    r ∙ rw (take_all i l (omega arith)) (pad_full 128 0 (map f l) (omega (arith, length-map l f)))
 
 -- ---- those with a property
 
@@ -180,43 +195,15 @@ module _ (p : ℕ → Bool) (i : ℕ) (ids : List ℕ) (k : ℕ) where
   pub those_size : Kept ids k (those p i 0) → k ≤ i
   those_size r = omega (arith, r.size, those_length p i 0)
 
--- the test of the code is that of the definition
-pub may_is : (gpus : List Gpu) (sites : List ℕ) (ask : Ask) (i s : ℕ) (g : Gpu) (r : Bool) → g ≡ get_or gpus i no_gpu → s ≡ get_or sites g.node 0 →
-    r ≡ eligible ask s g → may_take gpus sites ask i ≡ r
-may_is gpus sites ask i s g r e h f = sym (f ∙ rw (h, e))
+-- a turn of a loop that pushes the number at hand
+pub those_push : (p : ℕ → Bool) (i : ℕ) (c d : Chosen) → i < 128 → p i ≡ true → c ≡ chosen (those p i 0) →
+    ((r : List ℕ) → c ≡ chosen r → d ≡ chosen (take 128 (r ++ (i ∷ [])))) → d ≡ chosen (those p (i + 1) 0)
+those_push p i c d h t e f =
+    rw (those_next_take p i t) (pushed d (those p i 0) i (omega (arith, those_length p i 0)) (f (those p i 0) e))
 
--- ---- one list behind another
-
--- a turn that puts one more behind
-pub append_turn : (t l from : List ℕ) (s i : ℕ) → s ≡ length l → i < length from → s + i < 128 → t ≡ pad 128 0 (l ++ take i from) →
-    set t (s + i) (get_or from i 0) ≡ pad 128 0 (l ++ take (i + 1) from)
-append_turn t l from s i e h b r =
-    rw (take_next from i 0 h, ← append_assoc l (take i from) (get_or from i 0 ∷ []))
-    (store t (l ++ take i from) (get_or from i 0) (s + i) (omega (arith, length-append l (take i from), length-take i from)) b r)
-
--- of three numbers the least, in either order
-least_swap : (a b m : ℕ) → min (min a m) b ≡ min (min a b) m
-least_swap a b m = omega arith
-
-least_fits : (a b m n : ℕ) → n ≡ min (min a m) b → (n ≤ b) × (n ≤ m)
-least_fits a b m n e = (omega arith, omega arith)
-
--- the second list, as far as there is room
-append_part : (from : List ℕ) (a n b : ℕ) → length from ≡ 128 → n ≡ min (min a 128) b → take n from ≡ take b (take a from)
-append_part from a n b e m =
-    rw (m, least_swap a b 128, take_both b a from) (take_least (min a b) 128 from (omega arith))
-
--- both lists, as far as there is room
-pub append_done : (ids l from : List ℕ) (a n s : ℕ) → length from ≡ 128 → s ≡ length l → s ≤ 128 → n ≡ min (min a 128) (128 - s) →
-    ids ≡ pad 128 0 (l ++ take n from) → record { ids = ids; count = s + n } ≡ chosen (take 128 (l ++ take a from))
-append_done ids l from a n s e f h m r =
-    let t : take n from ≡ take (128 - length l) (take a from) = append_part from a n (128 - length l) e (rw f at m) in
-    let w : l ++ take n from ≡ take 128 (l ++ take a from) = rw t (sym (take_past 128 l (take a from) (rw f at h))) in
-    let k : s + n ≡ length (l ++ take n from) = length_append_is l (take n from) s n f (length-take-le n from (rw e (least_fits a (128 - s) 128 n m).1)) in
-    rw (r, ← w) (ap (λ (m : ℕ). record { ids = pad 128 0 (l ++ take n from); count = m }) k)
-  where
-    length_append_is : (l r : List ℕ) (s n : ℕ) → s ≡ length l → length r ≡ n → s + n ≡ length (l ++ r)
-    length_append_is l r s n e f = omega (arith, length-append l r)
+-- a turn that does not
+pub those_pass : (p : ℕ → Bool) (i : ℕ) (c : Chosen) → p i ≡ false → c ≡ chosen (those p i 0) → c ≡ chosen (those p (i + 1) 0)
+those_pass p i c t e = rw (those_next_skip p i t) e
 
 -- what a held list is
 pub held : (c : Chosen) (l : List ℕ) → c ≡ chosen l → (list_of c ≡ l) × (c.ids ≡ pad 128 0 (list_of c ++ []))
@@ -227,10 +214,3 @@ held c l e =
 -- a held list is at most as long as the table
 pub held_length : (c : Chosen) → length c.ids ≡ 128 → length (list_of c) ≤ 128
 held_length c e = omega (arith, length-take c.count c.ids)
-
--- a front of the table's size
-pub held_front : (c : Chosen) (l : List ℕ) → c ≡ chosen (take 128 l) → (c.count ≤ 128) × (c.count ≡ length (list_of c))
-held_front c l e =
-    let q : list_of c ≡ take 128 l = (held c (take 128 l) e).0 in
-    let n : c.count ≡ length (take 128 l) = rw e in
-    (omega (arith, length-take 128 l), n ∙ rw q)

@@ -5,26 +5,19 @@ ghost use Rattle.eligible.specs.Rule.{enough, asked, unowned, uncut, eligible};
 
 use model::gpu::Gpu;
 use model::job::Ask;
-use small::both;
 
 // Memory: 0.0 asks for none.
 fn is_enough(want: f64, have: f64) -> bool
     ensures { result ≡ enough want have }
 {
-    if want == 0.0 {
-        return true;
-    }
-    want <= have
+    want == 0.0 || want <= have
 }
 
 // A type or a site, each stored plus 1: 0 asks for nothing.
 fn is_asked(want: u16, have: u16) -> bool
     ensures { result ≡ asked want have }
 {
-    if want == 0 {
-        return true;
-    }
-    have == want
+    want == 0 || have == want
 }
 
 fn is_unowned(g: Gpu) -> bool
@@ -40,11 +33,13 @@ fn is_uncut(g: Gpu) -> bool
 }
 
 // The job may have the GPU g, whose node stands at the given site.
+#[tactic(auto, unfolding(crate::specs::Rule::eligible))]
 pub fn eligible_gpu(ask: Ask, site: u8, g: Gpu) -> bool
     ensures { result ≡ eligible ask site g }
 {
-    let free = both(is_unowned(g), is_uncut(g));
-    let fits = both(free, is_enough(ask.memory, g.memory));
-    let typed = both(fits, is_asked(ask.kind, (g.kind as u16) + 1));
-    both(typed, is_asked(ask.site as u16, site as u16))
+    is_unowned(g)
+        && is_uncut(g)
+        && is_enough(ask.memory, g.memory)
+        && is_asked(ask.kind, u16::from(g.kind) + 1)
+        && is_asked(u16::from(ask.site), u16::from(site))
 }

@@ -1,5 +1,5 @@
 -- The event with least time, then lowest insertion number, is taken; the clock becomes its time, and what it says is done.
-use Rattle.std.specs.Prelude.{◌≡◌, refl, Bool, true, false, List, ℕ}
+use Rattle.std.specs.Prelude.{◌≡◌, Bool, true, List, ℕ}
 use Rattle.std.proofs.Common.{sym, ◌∙◌}
 use Rattle.std.proofs.Math.Path.{ap}
 use Rattle.laws.specs.Choice.{pick}
@@ -91,23 +91,7 @@ pub has_found : (p : Plan) (f : Found) → f ≡ found_in p.events → used f.ev
 unfolding has_event next_event found_in
 has_found p f h = rw h
 
--- ---- one case for each return of the code
-
-pub happened_as : (k : EventKind) (p : Plan) (e : Event) (r : Moment) → e.kind ≡ k → r ≡ by_kind k p e → r ≡ happened p e
-happened_as k p e r h s = s ∙ ap (λ (x : EventKind). by_kind x p e) (sym h)
-
-module _ (p : Plan) (f : Found) (m : Moment) (is : m ≡ happened (with_found p f) f.event) where
-  -- a pass follows
-  pub found_goes : (r : Moment) → m.goes ≡ true → r ≡ settled m → r ≡ advanced_by p f
-  unfolding advanced_by
-  found_goes r h s = rw (← is) (s ∙ ap (λ (b : Bool). pick b (settled m) m) (sym h))
-
-  -- no more is done
-  pub found_stays : m.goes ≡ false → m ≡ advanced_by p f
-  unfolding advanced_by
-  found_stays h = rw (← is) (ap (λ (b : Bool). pick b (settled m) m) (sym h))
-
 -- a pass follows the least event
 pub advanced_goes : (p : Plan) (m : Moment) → m ≡ happened (with_event p) (next_event p) → (r : Moment) → m.goes ≡ true → r ≡ settled m → r ≡ advanced p
-unfolding with_event with_found next_event found_in
-advanced_goes p m is r h s = found_goes p (found_in p.events) m is r h s ∙ advanced_found p (found_in p.events) refl
+unfolding advanced
+advanced_goes p m is r h s = rw (← is) (s ∙ ap (λ (b : Bool). pick b (settled m) m) (sym h))

@@ -1,4 +1,3 @@
 -- The definitions of a step of the plan, and their laws.
 pub mod Settle
-pub mod Lent
 pub mod Advance

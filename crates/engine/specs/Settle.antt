@@ -44,12 +44,13 @@ with_pass p q b =
       totals = b.totals;
     }
 
+-- the timeouts, the starts and the queue after a pass
+abbrev pub after_pass : Plan → Pass → Moment
+after_pass p q = let b = starts_of p q in record { plan = with_pass p q b; log = b.log; ok = b.ahead.ok; goes = false }
+
 -- Pass, timeouts, starts.
 unfoldable pub settled : Moment → Moment
-settled m =
-    let q = pass_of m in
-    let b = starts_of m.plan q in
-    record { plan = with_pass m.plan q b; log = b.log; ok = b.ahead.ok; goes = false }
+settled m = after_pass m.plan (pass_of m)
 
 -- nothing changes but the queue's table, which holds nobody any more
 abbrev cleared : Moment → Moment

@@ -1,18 +1,16 @@
 // The least event is taken, the clock becomes its time, and what it says is done.
 
 ghost use Rattle.std.specs.Prelude.{◌≡◌};
-ghost use Rattle.rows.specs.Event.{events_of};
-ghost use Rattle.happen.specs.Happen.{whole_plan, whole_moment};
+ghost use Rattle.happen.specs.Happen.{whole_moment};
 ghost use Rattle.engine.specs.Advance.{happened, found_under, advanced_by};
 
 use crate::settle::settle;
-use happen::{Point, Rest, nothing, on_arrival, on_completion, on_timeout};
+use happen::{Point, nothing, on_arrival, on_completion, on_timeout};
 use model::event::{Event, EventKind};
-use model::sizes::{EVENTS, GPUS, JOBS};
+use model::plan::Plan;
+use model::sizes::EVENTS;
 use room::{least_under, take_event};
-use rows::event::{ENTRY, read_event};
-use rows::gpu::CARD;
-use rows::job::ROW;
+use tables::read;
 
 // An event, and the entry that it stands in.
 #[derive(Clone, Copy)]
@@ -22,53 +20,36 @@ pub struct Found {
 }
 
 // The least event of the entries below the top; an empty one where there is none.
-pub fn next_event(room: &[[u64; ENTRY]; EVENTS], top: usize) -> Found
-    ensures { result ≡ found_under top (events_of room.now) }
+#[tactic(auto, unfolding(crate::specs::Advance::found_under))]
+pub fn next_event(room: &[Event; EVENTS], top: usize) -> Found
+    ensures { result ≡ found_under top room.now }
 {
     let at = least_under(room, top);
     Found {
-        at: at,
-        event: read_event(room, at),
+        at,
+        event: read(room, at),
     }
 }
 
-fn happen_as(
-    gpus: &mut [[u64; CARD]; GPUS],
-    jobs: &mut [[u64; ROW]; JOBS],
-    room: &mut [[u64; ENTRY]; EVENTS],
-    rest: Rest,
-    e: Event,
-) -> Point
-    ensures { whole_moment result gpus.new jobs.new room.new
-        ≡ happened (whole_plan rest gpus.old jobs.old room.old) e }
+#[tactic(auto, unfolding(happen::specs::Happen::stale))]
+fn happen_as(plan: &mut Plan, e: Event) -> Point
+    ensures { whole_moment result plan.new ≡ happened plan.old e }
 {
-    let kind = e.kind;
-    match kind {
-        EventKind::Empty => nothing(rest),
-        EventKind::Arrival => on_arrival(jobs, room, rest, e),
-        EventKind::Completion => on_completion(gpus, jobs, rest, e),
-        EventKind::Timeout => on_timeout(jobs, rest, e),
+    match e.kind {
+        EventKind::Empty => nothing(),
+        EventKind::Arrival => on_arrival(plan, e),
+        EventKind::Completion => on_completion(plan, e),
+        EventKind::Timeout => on_timeout(plan, e),
     }
 }
 
 // With the event that was found; a stale one is taken, and no pass follows it.
-pub fn advance(
-    gpus: &mut [[u64; CARD]; GPUS],
-    jobs: &mut [[u64; ROW]; JOBS],
-    room: &mut [[u64; ENTRY]; EVENTS],
-    rest: Rest,
-    next: Found,
-) -> Point
-    ensures { whole_moment result gpus.new jobs.new room.new
-        ≡ advanced_by (whole_plan rest gpus.old jobs.old room.old) next }
+#[tactic(auto, unfolding(crate::specs::Advance::advanced_by, crate::specs::Advance::with_found))]
+pub fn advance(plan: &mut Plan, next: Found) -> Point
+    ensures { whole_moment result plan.new ≡ advanced_by plan.old next }
 {
-    let e = next.event;
-    take_event(room, next.at);
-    let mut at = rest;
-    at.clock = e.time;
-    let m = happen_as(gpus, jobs, room, at, e);
-    if m.goes {
-        return settle(gpus, jobs, room, m);
-    }
-    m
+    take_event(&mut plan.events, next.at);
+    plan.clock = next.event.time;
+    let m = happen_as(plan, next.event);
+    if m.goes { settle(plan, m) } else { m }
 }

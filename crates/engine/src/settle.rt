@@ -1,116 +1,91 @@
 // What follows an event: a pass, the victims' timeouts, the starts, and the queue without those who left it.
 
-ghost use Rattle.std.specs.Prelude.{◌≡◌, List, ℕ};
-ghost use Rattle.rows.specs.Job.{jobs_of};
+ghost use Rattle.std.specs.Prelude.{◌≡◌};
 ghost use Rattle.starts.specs.Begin.{whole_begun};
 ghost use Rattle.pass.specs.Visit.{whole_pass};
-ghost use Rattle.happen.specs.Happen.{whole_plan, whole_moment};
-ghost use Rattle.engine.specs.Settle.{starts_of, settled};
-ghost use Rattle.engine.specs.Lent.{pass_from, rest_after};
+ghost use Rattle.happen.specs.Happen.{whole_moment};
+ghost use Rattle.engine.specs.Settle.{with_pass, after_pass, settled};
 
-use happen::{Point, Rest};
+use eligible::chosen::Chosen;
+use happen::Point;
 use line::join::new_line;
 use line::keep::keep_waiting;
-use model::sizes::{EVENTS, GPUS, JOBS};
+use model::plan::Plan;
+use model::sizes::JOBS;
 use pass::visit::{Turn, new_turn};
 use pass::walk::walk;
 use room::ahead::Next;
-use rows::event::ENTRY;
-use rows::gpu::CARD;
-use rows::job::ROW;
 use starts::begin::{Beginning, begin_all};
 use starts::timeout::queue_timeouts;
 
-fn pass_of(gpus: &mut [[u64; CARD]; GPUS], jobs: &mut [[u64; ROW]; JOBS], m: Point) -> Turn
-    ensures { whole_pass result gpus.new jobs.new ≡ pass_from m gpus.old jobs.old }
+// The plan after the starts; the queue keeps those that still wait.
+#[tactic(auto, unfolding(crate::specs::Settle::with_pass))]
+fn with_pass(plan: &mut Plan, pass: Turn, begun: Beginning)
+    ensures { plan.new ≡ with_pass plan.old (whole_pass pass plan.old.gpus plan.old.jobs)
+        (whole_begun begun plan.old.jobs plan.old.events) }
 {
-    let rest = m.rest;
-    let setting = rest.setting;
-    let queue = rest.queue;
-    let totals = rest.totals;
-    let log = m.log;
-    let line = new_line(queue, rest.waiting, totals, log, m.ok);
-    walk(setting, rest.clock, gpus, jobs, new_turn(line))
+    let Chosen { ids, count } = keep_waiting(&plan.jobs, pass.line.queue, pass.line.waiting);
+    plan.queue = ids;
+    plan.waiting = count;
+    plan.next = begun.ahead.next;
+    plan.totals = begun.totals;
 }
 
 // Timeouts of the victims come before the completions of those that start.
-fn starts_of(
-    jobs: &mut [[u64; ROW]; JOBS],
-    room: &mut [[u64; ENTRY]; EVENTS],
-    rest: Rest,
-    pass: Turn,
-) -> Beginning
-    ensures { (was gpus : List (List ℕ)) → whole_begun result jobs.new room.new
-        ≡ starts_of (whole_plan rest was jobs.old room.old) (whole_pass pass gpus jobs.old) }
+#[tactic(auto, unfolding(crate::specs::Settle::after_pass, crate::specs::Settle::starts_of, crate::specs::Settle::with_pass))]
+fn start_placed(plan: &mut Plan, pass: Turn) -> Point
+    ensures { whole_moment result plan.new ≡ after_pass plan.old (whole_pass pass plan.old.gpus plan.old.jobs) }
 {
-    let setting = rest.setting;
-    let options = setting.options;
     let line = pass.line;
-    let victims = line.victims;
-    let totals = line.totals;
-    let log = line.log;
-    let placed = pass.placed;
     let a = Next {
-        next: rest.next,
+        next: plan.next,
         ok: line.ok,
     };
-    let ahead = queue_timeouts(room, a, rest.clock, jobs, victims, line.evicted);
+    let ahead = queue_timeouts(
+        &mut plan.events,
+        a,
+        plan.clock,
+        &plan.jobs,
+        line.victims,
+        line.evicted,
+    );
     let b = Beginning {
-        ahead: ahead,
-        totals: totals,
-        log: log,
+        ahead,
+        totals: line.totals,
+        log: line.log,
     };
-    begin_all(jobs, room, b, options, rest.clock, placed, pass.count)
-}
-
-// The plan after the starts; the queue keeps those that still wait.
-fn with_pass(jobs: &[[u64; ROW]; JOBS], rest: Rest, pass: Turn, begun: Beginning) -> Rest
-    ensures { result ≡ rest_after rest pass begun (jobs_of jobs.now) }
-{
-    let setting = rest.setting;
-    let line = pass.line;
-    let queue = line.queue;
-    let ahead = begun.ahead;
-    let totals = begun.totals;
-    let kept = keep_waiting(jobs, queue, line.waiting);
-    let ids = kept.ids;
-    Rest {
-        setting: setting,
-        queue: ids,
-        waiting: kept.count,
-        next: ahead.next,
-        clock: rest.clock,
-        totals: totals,
-    }
-}
-
-pub fn settle(
-    gpus: &mut [[u64; CARD]; GPUS],
-    jobs: &mut [[u64; ROW]; JOBS],
-    room: &mut [[u64; ENTRY]; EVENTS],
-    m: Point,
-) -> Point
-    ensures { whole_moment result gpus.new jobs.new room.new
-        ≡ settled (whole_moment m gpus.old jobs.old room.old) }
-{
-    let rest = m.rest;
-    if rest.waiting == 0 {
-        let mut after = rest;
-        after.queue = [0; JOBS];
-        let mut end = m;
-        end.rest = after;
-        end.goes = false;
-        return end;
-    }
-    let pass = pass_of(gpus, jobs, m);
-    let begun = starts_of(jobs, room, rest, pass);
-    let log = begun.log;
-    let ahead = begun.ahead;
-    let after = with_pass(jobs, rest, pass, begun);
+    let begun = begin_all(
+        &mut plan.jobs,
+        &mut plan.events,
+        b,
+        plan.setting.options,
+        plan.clock,
+        pass.placed,
+        pass.count,
+    );
+    with_pass(plan, pass, begun);
     Point {
-        rest: after,
-        log: log,
-        ok: ahead.ok,
+        log: begun.log,
+        ok: begun.ahead.ok,
         goes: false,
     }
+}
+
+// Where nobody waits the pass looks at nobody, and nobody starts.
+pub fn settle(plan: &mut Plan, m: Point) -> Point
+    ensures { whole_moment result plan.new ≡ settled (whole_moment m plan.old) }
+{
+    if plan.waiting == 0 {
+        plan.queue = [0; JOBS];
+        return Point { goes: false, ..m };
+    }
+    let line = new_line(plan.queue, plan.waiting, plan.totals, m.log, m.ok);
+    let pass = walk(
+        plan.setting,
+        plan.clock,
+        &mut plan.gpus,
+        &mut plan.jobs,
+        new_turn(line),
+    );
+    start_placed(plan, pass)
 }

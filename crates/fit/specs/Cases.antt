@@ -1,5 +1,7 @@
 -- The cases of the choices, one for each return of the code.
-use Rattle.std.specs.Prelude.{◌≡◌, Bool, true, List, ℕ, ◌≤◌, ◌<◌, take}
+use Rattle.std.specs.Prelude.{◌≡◌, Bool, true, List, ℕ, ◌≤◌, ◌<◌, ◌-◌, leb, take, Option, Some, None}
+use Rattle.std.specs.Option.{SomeIff, unwrap_or}
+use Rattle.laws.specs.Choice.{pick}
 use Rattle.std.proofs.Common.{◌∙◌, arith, le-leb}
 use Rattle.std.proofs.Math.Bool.{false}
 use Rattle.std.proofs.Math.ListN.{length}
@@ -59,6 +61,11 @@ module _ (nodes l : List ℕ) (count node : ℕ) (same taken : Chosen) (r : Choi
       let s : same ≡ chosen (best_held nodes l count) = rw k at s in
       let n : same.count ≡ length (best_held nodes l count) = held_count same (best_held nodes l count) s in
       rw (lt-leb count (length (best_held nodes l count)) (omega arith)) (e ∙ rw t)
+
+-- what is left of n, or another number where it is too small
+pub less_or : (r : Option ℕ) (count n d : ℕ) → SomeIff r (count ≤ n) (n - count) → unwrap_or r d ≡ pick (leb count n) (n - count) d
+less_or None count n d h = rw (lt-leb count n (omega arith))
+less_or (Some x) count n d h = rw (le-leb count n h.0) h.1
 
 -- the sorted table holds the eligible GPUs node by node
 pub node_by_node : (nodes ids first second counts sorted : List ℕ) (n : ℕ) → counts ≡ tally_of nodes (take n ids) → first ≡ rank_keys counts nodes →

@@ -1,12 +1,12 @@
 -- A choice of GPUs, and first fit.
-use Rattle.std.specs.Prelude.{Bool, true, List, ℕ, take}
+use Rattle.std.specs.Prelude.{Bool, List, ℕ, take}
 use Rattle.eligible.specs.Chosen.{chosen}
 use Rattle.eligible.specs.declared.chosen.Chosen.{Chosen}
 use Rattle.fit.specs.declared.first.Choice.{Choice}
 
 -- The GPUs held are chosen, with a penalty or without.
 abbrev pub held : Chosen → Bool → Choice
-held c penalised = record { chosen = c; enough = true; penalised = penalised }
+held c penalised = record { chosen = c; penalised = penalised }
 
 -- The GPUs of a list are chosen, with a penalty or without.
 abbrev pub took : List ℕ → Bool → Choice

@@ -1,5 +1,5 @@
 -- A right choice: as many GPUs as asked, each of the list at hand, none twice.
-use Rattle.std.specs.Prelude.{◌≡◌, refl, Bool, true, List, ℕ, ◌≤◌, ◌<◌, length, take}
+use Rattle.std.specs.Prelude.{◌≡◌, Bool, true, List, ℕ, ◌≤◌, ◌<◌, length, take}
 use Rattle.std.proofs.Common.{length-take-le}
 use Rattle.laws.specs.Lists.{All, Distinct, all_of, all_take, distinct_take, pad_take}
 use Rattle.laws.specs.Search.{has, has_at, Rising, rising_before}
@@ -16,12 +16,11 @@ got c = list_of c.chosen
 abbrev pub Of : List ℕ → List ℕ → Type 0
 Of l r = All (λ k. has k l ≡ true) r
 
--- count GPUs are chosen, each of l, none twice, and there is room
+-- count GPUs are chosen, each of l, none twice
 pub record Right (l : List ℕ) (count : ℕ) (c : Choice) : Type 0 where
   pub size : length (got c) ≡ count
   pub inside : Of l (got c)
   pub once : Distinct (got c)
-  pub room : c.enough ≡ true
 
 -- a list is of itself
 pub of_self : (l : List ℕ) → Of l l
@@ -47,7 +46,6 @@ right_took l r count p n a d =
       size = rw (got_took r p) n;
       inside = rw (got_took r p) a;
       once = rw (got_took r p) d;
-      room = refl;
     }
 
 -- the first count of a list without repeats whose members are of l

@@ -6,11 +6,10 @@ ghost use Rattle.fit.specs.First.{took, held, first_fit};
 
 use eligible::chosen::{Chosen, first_of};
 
-// Which GPUs the job gets, whether there is room for it at all, and whether it is penalised.
+// Which GPUs the job gets, and whether it is penalised.
 #[derive(Clone, Copy)]
 pub struct Choice {
     pub chosen: Chosen,
-    pub enough: bool,
     pub penalised: bool,
 }
 
@@ -19,8 +18,7 @@ pub fn take_these(these: Chosen, penalised: bool) -> Choice
 {
     Choice {
         chosen: these,
-        enough: true,
-        penalised: penalised,
+        penalised,
     }
 }
 

@@ -2,8 +2,7 @@
 use Rattle.std.specs.Prelude.{◌≡◌, refl, List, [], ◌∷◌, ℕ, ◌≤◌, length, set}
 use Rattle.std.proofs.Common.{arith}
 use Rattle.decision_log.specs.Words.{over}
-use Rattle.trace.specs.Answer.{number_of, place_of}
-use Rattle.trace.specs.declared.answer.Answer.{Answer}
+use Rattle.trace.specs.Answer.{Answer, number_of, place_of}
 use Rattle.gpu_planner.specs.declared.head.Head.{Head}
 
 abbrev pub head_words : Head → List ℕ

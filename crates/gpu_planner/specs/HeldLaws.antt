@@ -1,7 +1,5 @@
--- What is held of a plan gives that plan back; and the turns of the loops that go over a table.
-use Rattle.std.specs.Prelude.{◌≡◌, refl, List, [], ◌∷◌, ◌++◌, map, ℕ, ◌+◌, ◌≤◌, ◌<◌, length, get_or, take, drop, set}
-use Rattle.std.proofs.Common.{append-nil, drop_of_length-le, take_all}
-use Rattle.mig.specs.More.{turn_set, turn_drop}
+-- What is held of a plan gives that plan back.
+use Rattle.std.specs.Prelude.{◌≡◌, refl, List, [], ◌∷◌, map}
 use Rattle.model.specs.declared.event.EventKind.{EventKind}
 use Rattle.model.specs.declared.event.EventKind.TheVariants.{Empty, Arrival, Completion, Timeout}
 use Rattle.model.specs.declared.event.Event.{Event}
@@ -10,18 +8,6 @@ use Rattle.model.specs.declared.job.JobState.TheVariants.{Pending, Waiting, Plac
 use Rattle.model.specs.declared.job.Job.{Job}
 use Rattle.model.specs.declared.plan.Plan.{Plan}
 use Rattle.gpu_planner.specs.Held.{state_number, state_of, kind_number, kind_of, held_job, job_in, held_event, event_in, held_plan, plan_in}
-
--- ---- a loop that goes over a table
-
-module _ {A B : Type 0} (f : A → B) where
-  -- a turn puts down what becomes of the entry at hand
-  pub over_turn : (old : List A) (new : List B) (i : ℕ) (d : A) → i < length old → i < length new →
-      take (i + 1) (set new i (f (get_or old i d))) ++ map f (drop (i + 1) old) ≡ take i new ++ map f (drop i old)
-  over_turn old new i d h k = rw (turn_set new (map f (drop (i + 1) old)) i (f (get_or old i d)) k, turn_drop old i d h)
-
-  -- past the last entry all are put down
-  pub over_end : (old : List A) (new : List B) (i : ℕ) → length old ≤ i → length new ≤ i → new ≡ take i new ++ map f (drop i old)
-  over_end old new i h k = rw (take_all i new k, drop_of_length-le old h, append-nil)
 
 -- ---- held and read again
 

@@ -1,14 +1,12 @@
 -- The words that a load, a step and the question answer with, and what a load and a step hand out.
-use Rattle.std.specs.Prelude.{List, ℕ, ◌+◌, ◌*◌, ◌%◌, ◌^◌}
-use Rattle.trace.specs.Answer as Answer
-use Rattle.trace.specs.declared.answer.Answer.{Answer}
+use Rattle.std.specs.Prelude.{Bool, true, false, List, ℕ, Result, Ok, Err, ◌+◌, ◌*◌, ◌%◌, ◌^◌}
+use Rattle.trace.specs.Answer as Trace
+use Rattle.trace.specs.Answer.{Answer}
 use Rattle.loader.specs.Load.{load}
 use Rattle.planner.specs.Step as Step
 use Rattle.planner.specs.Step.{stepped}
-use Rattle.planner.specs.declared.Placeable.{Placeable}
-use Rattle.planner.specs.declared.Placeable.TheVariants.{Yes, No, NoSuchJob}
-use Rattle.planner.specs.declared.Taken.{Taken}
-use Rattle.planner.specs.declared.Taken.TheVariants.{Decisions, ShortBuffer, NoEvent, NotPermitted}
+use Rattle.planner.specs.declared.NoSuchJob.{NoSuchJob}
+use Rattle.planner.specs.declared.StepRefusal.{StepRefusal}
 use Rattle.gpu_planner.specs.Held.{held_plan, plan_in}
 use Rattle.gpu_planner.specs.declared.held.HeldPlan.{HeldPlan}
 use Rattle.gpu_planner.specs.declared.lent.Handed.{Handed}
@@ -18,23 +16,21 @@ abbrev pub word_of : ℕ → ℕ → ℕ
 word_of number value = number * 2 ^ 32 + value % 2 ^ 32
 
 -- how many decisions a step made
-abbrev pub count_of : Taken → ℕ
-count_of (Decisions n) = n
-count_of ShortBuffer = 0
-count_of NoEvent = 0
-count_of NotPermitted = 0
+abbrev pub count_of : Result ℕ StepRefusal → ℕ
+count_of (Ok n) = n
+count_of (Err e) = 0
 
 abbrev pub load_word : Answer → ℕ
-load_word a = word_of (Answer.number_of a) (Answer.place_of a)
+load_word a = word_of (Trace.number_of a) (Trace.place_of a)
 
-abbrev pub step_word : Taken → ℕ
+abbrev pub step_word : Result ℕ StepRefusal → ℕ
 step_word t = word_of (Step.number_of t) (count_of t)
 
 -- 1 for yes, 0 for no; 13 is the number where there is no such job
-abbrev pub place_word : Placeable → ℕ
-place_word Yes = 1
-place_word No = 0
-place_word NoSuchJob = word_of 13 0
+abbrev pub place_word : Result Bool NoSuchJob → ℕ
+place_word (Ok true) = 1
+place_word (Ok false) = 0
+place_word (Err e) = word_of 13 0
 
 -- what a load hands out
 abbrev pub load_held : List ℕ → Handed

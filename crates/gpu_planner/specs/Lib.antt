@@ -3,7 +3,6 @@ pub mod Head
 pub mod Run
 pub mod RunLaws
 pub mod Ran
-pub mod Load
 pub mod TopLaws
 pub mod Held
 pub mod HeldLaws

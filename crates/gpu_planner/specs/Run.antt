@@ -1,10 +1,10 @@
 -- The run of a loaded plan: steps until one is refused, each with its decisions behind those before.
-use Rattle.std.specs.Prelude.{List, ◌++◌, ℕ, zero, suc, ◌+◌, ◌-◌, ◌*◌, min, length, take, drop}
+use Rattle.std.specs.Prelude.{List, Result, Ok, Err, ◌++◌, ℕ, zero, suc, ◌+◌, ◌-◌, ◌*◌, min, length, take, drop}
 use Rattle.model.specs.declared.plan.Plan.{Plan}
 use Rattle.decision_log.specs.Log.{most}
 use Rattle.planner.specs.Step.{stepped, words_after}
-use Rattle.planner.specs.declared.Taken.{Taken}
-use Rattle.planner.specs.declared.Taken.TheVariants.{Decisions, ShortBuffer, NoEvent, NotPermitted}
+use Rattle.planner.specs.declared.StepRefusal.{StepRefusal}
+use Rattle.planner.specs.declared.StepRefusal.TheVariants.{ShortBuffer, NoEvent, NotPermitted}
 use Rattle.gpu_planner.specs.Head.{ended_head}
 use Rattle.gpu_planner.specs.declared.head.Head.{Head}
 
@@ -25,12 +25,16 @@ pub record Run : Type 0 where
   pub head : Head
   pub words : List ℕ
 
+-- a run's answer by the refusal that ends it: 0 where no event is left
+abbrev pub end_number : StepRefusal → ℕ
+end_number NoEvent = 0
+end_number NotPermitted = 12
+end_number ShortBuffer = 10
+
 -- A step's answer ends the run, or it goes on with so many decisions more.
-abbrev pub goes_on : Taken → ℕ → ℕ → List ℕ → (ℕ → Run) → Run
-goes_on (Decisions n) steps count ws on = on (count + min n most)
-goes_on NoEvent steps count ws on = record { head = ended_head 0 steps count; words = ws }
-goes_on NotPermitted steps count ws on = record { head = ended_head 12 steps count; words = ws }
-goes_on ShortBuffer steps count ws on = record { head = ended_head 10 steps count; words = ws }
+abbrev pub goes_on : Result ℕ StepRefusal → ℕ → ℕ → List ℕ → (ℕ → Run) → Run
+goes_on (Ok n) steps count ws on = on (count + min n most)
+goes_on (Err e) steps count ws on = record { head = ended_head (end_number e) steps count; words = ws }
 
 -- At most m steps more, from a plan after so many steps and decisions.
 unfoldable pub run_to : ℕ → Plan → ℕ → ℕ → List ℕ → Run

@@ -4,7 +4,7 @@ ghost use Rattle.std.specs.Prelude.{◌≡◌, ◌≤◌, length};
 ghost use Rattle.decision_log.specs.Words.{over};
 ghost use Rattle.gpu_planner.specs.Head.{head_words, refused_head};
 
-use trace::answer::{Answer, number_of, place_of};
+use trace::answer::{Refusal, number_of, place_of};
 
 // answer 0: planned to its end; 1 to 9: the load was refused, at the place; 12: a step was refused.
 #[derive(Clone, Copy)]
@@ -16,7 +16,7 @@ pub struct Head {
 }
 
 // Of a refused load.
-pub fn refused(answer: Answer) -> Head
+pub fn refused(answer: Result<(), Refusal>) -> Head
     ensures { result ≡ refused_head answer }
 {
     Head {

@@ -3,9 +3,9 @@
 ghost use Rattle.std.specs.Prelude.{◌≡◌, map};
 ghost use Rattle.gpu_planner.specs.Held.{state_number, state_of, kind_number, kind_of, held_job, job_in, held_event, event_in, held_plan, plan_in};
 
-use model::event::{Event, EventKind, empty_event};
+use model::event::{Event, EventKind};
 use model::gpu::Gpu;
-use model::job::{Ask, Job, JobState, no_job};
+use model::job::{Ask, Job, JobState};
 use model::plan::Plan;
 use model::setting::Setting;
 use model::sizes::{EVENTS, GPUS, JOBS};
@@ -66,22 +66,14 @@ fn state_number(s: JobState) -> u8
 fn state_of(n: u8) -> JobState
     ensures { result ≡ state_of n }
 {
-    if n == 1 {
-        return JobState::Waiting;
+    match n {
+        1 => JobState::Waiting,
+        2 => JobState::Placed,
+        3 => JobState::Running,
+        4 => JobState::Finished,
+        5 => JobState::Failed,
+        _ => JobState::Pending,
     }
-    if n == 2 {
-        return JobState::Placed;
-    }
-    if n == 3 {
-        return JobState::Running;
-    }
-    if n == 4 {
-        return JobState::Finished;
-    }
-    if n == 5 {
-        return JobState::Failed;
-    }
-    JobState::Pending
 }
 
 fn kind_number(k: EventKind) -> u8
@@ -99,26 +91,21 @@ fn kind_number(k: EventKind) -> u8
 fn kind_of(n: u8) -> EventKind
     ensures { result ≡ kind_of n }
 {
-    if n == 1 {
-        return EventKind::Arrival;
+    match n {
+        1 => EventKind::Arrival,
+        2 => EventKind::Completion,
+        3 => EventKind::Timeout,
+        _ => EventKind::Empty,
     }
-    if n == 2 {
-        return EventKind::Completion;
-    }
-    if n == 3 {
-        return EventKind::Timeout;
-    }
-    EventKind::Empty
 }
 
+#[tactic(auto, unfolding(crate::specs::Held::held_job))]
 fn held_job(j: Job) -> HeldJob
     ensures { result ≡ held_job j }
 {
-    let ask = j.ask;
-    let state = j.state;
     HeldJob {
-        ask: ask,
-        state: state_number(state),
+        ask: j.ask,
+        state: state_number(j.state),
         since: j.since,
         start: j.start,
         remaining: j.remaining,
@@ -129,14 +116,13 @@ fn held_job(j: Job) -> HeldJob
     }
 }
 
+#[tactic(auto, unfolding(crate::specs::Held::job_in))]
 fn job_in(h: HeldJob) -> Job
     ensures { result ≡ job_in h }
 {
-    let ask = h.ask;
-    let state = state_of(h.state);
     Job {
-        ask: ask,
-        state: state,
+        ask: h.ask,
+        state: state_of(h.state),
         since: h.since,
         start: h.start,
         remaining: h.remaining,
@@ -147,120 +133,88 @@ fn job_in(h: HeldJob) -> Job
     }
 }
 
+#[tactic(auto, unfolding(crate::specs::Held::held_event))]
 fn held_event(e: Event) -> HeldEvent
     ensures { result ≡ held_event e }
 {
-    let kind = e.kind;
     HeldEvent {
         time: e.time,
         number: e.number,
-        kind: kind_number(kind),
+        kind: kind_number(e.kind),
         job: e.job,
         generation: e.generation,
     }
 }
 
+#[tactic(auto, unfolding(crate::specs::Held::event_in))]
 fn event_in(h: HeldEvent) -> Event
     ensures { result ≡ event_in h }
 {
-    let kind = kind_of(h.kind);
     Event {
         time: h.time,
         number: h.number,
-        kind: kind,
+        kind: kind_of(h.kind),
         job: h.job,
         generation: h.generation,
     }
 }
 
-fn held_jobs(jobs: [Job; JOBS]) -> [HeldJob; JOBS]
-    ensures { result ≡ map held_job jobs }
-{
-    let mut table = [held_job(no_job()); JOBS];
-    let mut i: usize = 0;
-    while i < JOBS {
-        table[i] = held_job(jobs[i]);
-        i += 1;
-    }
-    table
-}
-
-fn jobs_in(held: [HeldJob; JOBS]) -> [Job; JOBS]
-    ensures { result ≡ map job_in held }
-{
-    let mut table = [no_job(); JOBS];
-    let mut i: usize = 0;
-    while i < JOBS {
-        table[i] = job_in(held[i]);
-        i += 1;
-    }
-    table
-}
-
-fn held_events(events: [Event; EVENTS]) -> [HeldEvent; EVENTS]
-    ensures { result ≡ map held_event events }
-{
-    let mut table = [held_event(empty_event()); EVENTS];
-    let mut i: usize = 0;
-    while i < EVENTS {
-        table[i] = held_event(events[i]);
-        i += 1;
-    }
-    table
-}
-
-fn events_in(held: [HeldEvent; EVENTS]) -> [Event; EVENTS]
-    ensures { result ≡ map event_in held }
-{
-    let mut table = [empty_event(); EVENTS];
-    let mut i: usize = 0;
-    while i < EVENTS {
-        table[i] = event_in(held[i]);
-        i += 1;
-    }
-    table
-}
-
+#[tactic(auto, unfolding(crate::specs::Held::held_plan))]
 pub fn held_plan(p: Plan) -> HeldPlan
     ensures { result ≡ held_plan p }
 {
-    let setting = p.setting;
-    let gpus = p.gpus;
-    let jobs = p.jobs;
-    let queue = p.queue;
-    let events = p.events;
-    let totals = p.totals;
+    let Plan {
+        setting,
+        gpus,
+        jobs,
+        queue,
+        waiting,
+        events,
+        next,
+        clock,
+        totals,
+    } = p;
+    let jobs = jobs.map(held_job);
+    let events = events.map(held_event);
     HeldPlan {
-        setting: setting,
-        gpus: gpus,
-        jobs: held_jobs(jobs),
-        queue: queue,
-        waiting: p.waiting,
-        events: held_events(events),
-        next: p.next,
-        clock: p.clock,
-        totals: totals,
+        setting,
+        gpus,
+        jobs,
+        queue,
+        waiting,
+        events,
+        next,
+        clock,
+        totals,
     }
 }
 
+#[tactic(auto, unfolding(crate::specs::Held::plan_in))]
 pub fn plan_in(h: HeldPlan) -> Plan
     ensures { result ≡ plan_in h }
 {
-    let setting = h.setting;
-    let gpus = h.gpus;
-    let jobs = h.jobs;
-    let queue = h.queue;
-    let events = h.events;
-    let totals = h.totals;
+    let HeldPlan {
+        setting,
+        gpus,
+        jobs,
+        queue,
+        waiting,
+        events,
+        next,
+        clock,
+        totals,
+    } = h;
+    let jobs = jobs.map(job_in);
+    let events = events.map(event_in);
     Plan {
-        setting: setting,
-        gpus: gpus,
-        jobs: jobs_in(jobs),
-        queue: queue,
-        waiting: h.waiting,
-        events: events_in(events),
-        next: h.next,
-        clock: h.clock,
-        totals: totals,
+        setting,
+        gpus,
+        jobs,
+        queue,
+        waiting,
+        events,
+        next,
+        clock,
+        totals,
     }
 }

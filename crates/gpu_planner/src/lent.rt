@@ -8,7 +8,7 @@ ghost use Rattle.gpu_planner.specs.Held.{held_plan, plan_in};
 ghost use Rattle.gpu_planner.specs.Lent.{word_of, count_of, load_word, step_word, place_word, load_held, step_held};
 
 use crate::held::{HeldPlan, held_plan, plan_in};
-use planner::{Placeable, Taken, can_place, load, step};
+use planner::{NoSuchJob, StepRefusal, can_place, load, step};
 use trace::answer::{number_of, place_of};
 
 // The plan to hand out, and the word that tells how it went.
@@ -23,39 +23,33 @@ fn word_of(number: u64, value: usize) -> u64
     requires { number < 2 ^ 32 }
     ensures { result ≡ word_of number value }
 {
-    let low = value as u64;
-    number * 0x1_0000_0000 + low % 0x1_0000_0000
+    number * 0x1_0000_0000 + value as u64 % 0x1_0000_0000
 }
 
-fn taken_number(t: Taken) -> u64
+fn taken_number(t: Result<usize, StepRefusal>) -> u64
     ensures { result ≡ number_of t }
 {
     match t {
-        Taken::Decisions(_) => 0,
-        Taken::ShortBuffer => 10,
-        Taken::NoEvent => 11,
-        Taken::NotPermitted => 12,
+        Ok(_) => 0,
+        Err(StepRefusal::ShortBuffer) => 10,
+        Err(StepRefusal::NoEvent) => 11,
+        Err(StepRefusal::NotPermitted) => 12,
     }
 }
 
-fn taken_count(t: Taken) -> usize
+fn taken_count(t: Result<usize, StepRefusal>) -> usize
     ensures { result ≡ count_of t }
 {
-    match t {
-        Taken::Decisions(n) => n,
-        Taken::ShortBuffer => 0,
-        Taken::NoEvent => 0,
-        Taken::NotPermitted => 0,
-    }
+    t.unwrap_or(0)
 }
 
-fn place_word(p: Placeable) -> u64
+fn place_word(p: Result<bool, NoSuchJob>) -> u64
     ensures { result ≡ place_word p }
 {
     match p {
-        Placeable::Yes => 1,
-        Placeable::No => 0,
-        Placeable::NoSuchJob => 0xd_0000_0000,
+        Ok(true) => 1,
+        Ok(false) => 0,
+        Err(NoSuchJob) => 0xd_0000_0000,
     }
 }
 
@@ -63,11 +57,9 @@ fn load_held(trace: &[u8]) -> Handed
     ensures { result ≡ load_held trace.now }
 {
     let loaded = load(trace);
-    let answer = loaded.answer;
-    let plan = loaded.plan;
     Handed {
-        word: word_of(number_of(answer), place_of(answer)),
-        plan: held_plan(plan),
+        word: word_of(number_of(loaded.answer), place_of(loaded.answer)),
+        plan: held_plan(loaded.plan),
     }
 }
 
@@ -75,11 +67,9 @@ fn step_held(plan: HeldPlan, words: &mut [u64]) -> Handed
     ensures { (result ≡ step_held plan (length words.old)) × (words.new ≡ words_after (plan_in plan) words.old) }
 {
     let s = step(plan_in(plan), words);
-    let answer = s.answer;
-    let after = s.plan;
     Handed {
-        word: word_of(taken_number(answer), taken_count(answer)),
-        plan: held_plan(after),
+        word: word_of(taken_number(s.answer), taken_count(s.answer)),
+        plan: held_plan(s.plan),
     }
 }
 

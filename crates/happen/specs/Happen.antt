@@ -1,5 +1,5 @@
 -- What an event says: an arrival, a completion, a timeout; a stale one changes nothing more.
-use Rattle.std.specs.Prelude.{Bool, true, false, ◌&&◌, List, map, ℕ, eqb, length, get_or, set}
+use Rattle.std.specs.Prelude.{Bool, true, false, ◌&&◌, map, ℕ, eqb, length, get_or, set}
 use Rattle.laws.specs.Choice.{pick}
 use Rattle.laws.specs.Lists.{pad}
 use Rattle.small.specs.Small.{plus_one, onward}
@@ -20,29 +20,12 @@ use Rattle.room.specs.declared.ahead.Ahead.{Ahead}
 use Rattle.starts.specs.Timeout.{timeout_queued}
 use Rattle.starts.specs.Begin.{amount}
 use Rattle.line.specs.Keep.{waits, still_waiting}
-use Rattle.rows.specs.Gpu.{gpus_of}
-use Rattle.rows.specs.Job.{jobs_of}
-use Rattle.rows.specs.Event.{events_of}
 use Rattle.happen.specs.declared.Moment.{Moment}
-use Rattle.happen.specs.declared.Rest.{Rest}
 use Rattle.happen.specs.declared.Point.{Point}
 
--- the plan, with the tables that were lent
-abbrev pub whole_plan : Rest → List (List ℕ) → List (List ℕ) → List (List ℕ) → Plan
-whole_plan r gpus jobs room = record {
-  setting = r.setting;
-  gpus = gpus_of gpus;
-  jobs = jobs_of jobs;
-  queue = r.queue;
-  waiting = r.waiting;
-  events = events_of room;
-  next = r.next;
-  clock = r.clock;
-  totals = r.totals;
-}
-
-abbrev pub whole_moment : Point → List (List ℕ) → List (List ℕ) → List (List ℕ) → Moment
-whole_moment m gpus jobs room = record { plan = whole_plan m.rest gpus jobs room; log = m.log; ok = m.ok; goes = m.goes }
+-- the moment, with the plan that was lent
+abbrev pub whole_moment : Point → Plan → Moment
+whole_moment m p = record { plan = p; log = m.log; ok = m.ok; goes = m.goes }
 
 abbrev pub job_of : Plan → ℕ → Job
 job_of p id = get_or p.jobs id no_job
@@ -50,6 +33,10 @@ job_of p id = get_or p.jobs id no_job
 -- nothing more is done
 unfoldable pub stale : Plan → Moment
 stale p = record { plan = p; log = empty_log; ok = true; goes = false }
+
+-- what is said of it
+abbrev pub nothing : Point
+nothing = record { log = empty_log; ok = true; goes = false }
 
 -- the step's first decision, at the clock; a pass follows
 unfoldable pub said : Plan → Bool → Kind → ℕ → ℕ → Moment
@@ -69,19 +56,6 @@ joins p id j =
       next = p.next;
       clock = p.clock;
       totals = Noted.joined p.totals waiting;
-    }
-
--- the same of the rest of a plan: its job is written into the table that was lent
-abbrev pub joins_rest : Rest → ℕ → Rest
-joins_rest r id =
-    let waiting = onward r.waiting Sizes.jobs in
-    record {
-      setting = r.setting;
-      queue = set r.queue r.waiting id;
-      waiting = waiting;
-      next = r.next;
-      clock = r.clock;
-      totals = Noted.joined r.totals waiting;
     }
 
 abbrev pub with_ahead : Plan → Ahead → Plan

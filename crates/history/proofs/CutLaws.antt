@@ -16,8 +16,7 @@ use Rattle.mig.specs.Table.{first_idle, free_in_all, gives, in_order, given_in_o
 use Rattle.mig.specs.Allocate.{enough_free, cut_helps, free_elsewhere, new_slices, cut_for, slices_allocated}
 use Rattle.mig.specs.declared.allocate.Slices.{Slices}
 use Rattle.cluster.specs.Gpus.{with_owner, given}
-use Rattle.eligible.specs.Chosen.{list_of}
-use Rattle.choice.specs.Choose.{choose}
+use Rattle.choice.specs.Choose.{choose, got_of}
 use Rattle.resource.specs.Cause.{most_of, placeable}
 use Rattle.resource.specs.Allocate.{whole_allocated, slices_got, allocated}
 use Rattle.resource.specs.declared.allocate.Allocation.{Allocation}
@@ -132,7 +131,7 @@ allocated_stays s gpus jobs j owner =
     (eqb j.ask.profile 0)
     _
     _
-    (given_stays owner gpus (list_of (choose gpus s.gpus s.sites j.ask s.options.best).chosen))
+    (given_stays owner gpus (got_of (choose gpus s.gpus s.sites j.ask s.options.best)))
     (slices_stay gpus s.gpus j.ask.profile (most_of s j.ask.profile) j.ask.slices owner))
     (λ i t. t)
 

@@ -11,9 +11,8 @@ use Rattle.mig.specs.Allocate.{slices_allocated}
 use Rattle.cluster.specs.Gpus.{given}
 use Rattle.eligible.specs.Eligible.{site_of, may_take}
 use Rattle.eligible.specs.Laws.{eligible_means}
-use Rattle.fit.specs.Right.{got}
-use Rattle.choice.specs.Choose.{choose}
-use Rattle.choice.specs.ChooseLaws.{choose_right, choose_each, choose_distinct}
+use Rattle.choice.specs.Choose.{choose, got_of}
+use Rattle.choice.specs.ChooseLaws.{choose_enough, choose_count, choose_each, choose_distinct}
 use Rattle.resource.specs.Cause.{most_of, placeable}
 use Rattle.resource.specs.Allocate.{whole_allocated, slices_got, allocated}
 use Rattle.resource.specs.AllocateLaws.{placeable_enough, placeable_slices}
@@ -29,7 +28,7 @@ module _ (s : Setting) (gpus : List Gpu) (jobs : List Job) (j : Job) (owner : �
 
   -- the GPUs of a whole-GPU job
   abbrev chosen : List ℕ
-  chosen = got (choose gpus s.gpus s.sites j.ask s.options.best)
+  chosen = got_of (choose gpus s.gpus s.sites j.ask s.options.best)
 
   -- the table with the slices of a MIG job
   abbrev sliced : List Gpu
@@ -70,7 +69,9 @@ module _ (s : Setting) (gpus : List Gpu) (jobs : List Job) (j : Job) (owner : �
 
   -- as many as asked
   chosen_count : eqb j.ask.profile 0 ≡ true → length chosen ≡ j.ask.count
-  chosen_count z = (choose_right gpus s.gpus s.sites j.ask s.options.best (placeable_enough s gpus jobs j z may)).size
+  chosen_count z =
+      (choose_count gpus s.gpus s.sites j.ask s.options.best
+      (choose_enough gpus s.gpus s.sites j.ask s.options.best ∙ placeable_enough s gpus jobs j z may)).1
 
   -- it holds what it asks for
   pub got_own : 0 < owner → Cuts s → holds owner gpus ≡ nothing → holds owner after ≡ wanted j.ask

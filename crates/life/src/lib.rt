@@ -3,7 +3,8 @@
 #![tactic(auto)]
 
 ghost use Rattle.std.specs.Prelude.{◌≡◌};
-ghost use Rattle.life.specs.Life.{raised, timed, run_seconds, left_after, waits, fails, ends, evicted, placed, delayed, start_at, multiplier_of, completion_at, started};
+ghost use Rattle.life.specs.Life.{raised, timed, run_seconds, left_after, delayed, start_at, multiplier_of, completion_at};
+ghost use Rattle.life.specs.Life.{waits, fails, ends, evicted, placed, started};
 
 use model::job::{Ask, Job, JobState};
 use model::setting::Options;
@@ -12,70 +13,50 @@ fn raise(generation: u32, yes: bool) -> u32
     ensures { result ≡ raised generation yes }
 {
     if yes {
-        return std::num::wrapping_add_u32(generation, 1);
+        generation.wrapping_add(1)
+    } else {
+        generation
     }
-    generation
 }
 
 // A gang job with a timeout.
 pub fn is_timed(ask: Ask) -> bool
     ensures { result ≡ timed ask }
 {
-    if ask.gang {
-        return 0.0 < ask.timeout;
-    }
-    false
+    ask.gang && 0.0 < ask.timeout
 }
 
 // At its arrival a job waits from the clock on.
+#[tactic(auto, unfolding(crate::specs::Life::waits))]
 pub fn wait(j: Job, clock: f64) -> Job
     ensures { result ≡ waits j clock }
 {
-    let ask = j.ask;
     Job {
-        ask: ask,
         state: JobState::Waiting,
         since: clock,
-        start: j.start,
-        remaining: j.remaining,
-        waited: j.waited,
-        evictions: j.evictions,
-        run: j.run,
-        timeouts: raise(j.timeouts, is_timed(ask)),
+        timeouts: raise(j.timeouts, is_timed(j.ask)),
+        ..j
     }
 }
 
+#[tactic(auto, unfolding(crate::specs::Life::fails))]
 pub fn fail(j: Job, clock: f64) -> Job
     ensures { result ≡ fails j clock }
 {
-    let ask = j.ask;
     Job {
-        ask: ask,
         state: JobState::Failed,
-        since: j.since,
-        start: j.start,
-        remaining: j.remaining,
         waited: j.waited + (clock - j.since),
-        evictions: j.evictions,
-        run: j.run,
-        timeouts: j.timeouts,
+        ..j
     }
 }
 
+#[tactic(auto, unfolding(crate::specs::Life::ends))]
 pub fn end(j: Job) -> Job
     ensures { result ≡ ends j }
 {
-    let ask = j.ask;
     Job {
-        ask: ask,
         state: JobState::Finished,
-        since: j.since,
-        start: j.start,
-        remaining: j.remaining,
-        waited: j.waited,
-        evictions: j.evictions,
-        run: j.run,
-        timeouts: j.timeouts,
+        ..j
     }
 }
 
@@ -84,52 +65,39 @@ fn run_seconds(j: Job, clock: f64) -> f64
     ensures { result ≡ run_seconds j clock }
 {
     if clock < j.start {
-        return 0.0;
+        0.0
+    } else {
+        clock - j.start
     }
-    clock - j.start
 }
 
 fn left_after(j: Job, clock: f64) -> f64
     ensures { result ≡ left_after j clock }
 {
     let left = j.remaining - run_seconds(j, clock);
-    if 0.0 < left {
-        return left;
-    }
-    0.0
+    if 0.0 < left { left } else { 0.0 }
 }
 
+#[tactic(auto, unfolding(crate::specs::Life::evicted))]
 pub fn evict(j: Job, clock: f64) -> Job
     ensures { result ≡ evicted j clock }
 {
-    let ask = j.ask;
     Job {
-        ask: ask,
         state: JobState::Waiting,
         since: clock,
-        start: j.start,
         remaining: left_after(j, clock),
-        waited: j.waited,
-        evictions: std::num::wrapping_add_u32(j.evictions, 1),
-        run: j.run,
-        timeouts: j.timeouts,
+        evictions: j.evictions.wrapping_add(1),
+        ..j
     }
 }
 
+#[tactic(auto, unfolding(crate::specs::Life::placed))]
 pub fn place(j: Job) -> Job
     ensures { result ≡ placed j }
 {
-    let ask = j.ask;
     Job {
-        ask: ask,
         state: JobState::Placed,
-        since: j.since,
-        start: j.start,
-        remaining: j.remaining,
-        waited: j.waited,
-        evictions: j.evictions,
-        run: j.run,
-        timeouts: j.timeouts,
+        ..j
     }
 }
 
@@ -137,10 +105,7 @@ pub fn place(j: Job) -> Job
 fn delayed(clock: f64, options: Options, cut: bool) -> f64
     ensures { result ≡ delayed clock options cut }
 {
-    if cut {
-        return clock + options.seconds;
-    }
-    clock
+    if cut { clock + options.seconds } else { clock }
 }
 
 // The start: after a reconfiguration, and then after the restart penalty of a job that was evicted before.
@@ -149,18 +114,16 @@ pub fn start_at(j: Job, clock: f64, options: Options, cut: bool) -> f64
 {
     let start = delayed(clock, options, cut);
     if j.evictions == 0 {
-        return start;
+        start
+    } else {
+        start + options.penalty
     }
-    start + options.penalty
 }
 
 pub fn multiplier_of(options: Options, penalised: bool) -> f64
     ensures { result ≡ multiplier_of options penalised }
 {
-    if penalised {
-        return options.multiplier;
-    }
-    1.0
+    if penalised { options.multiplier } else { 1.0 }
 }
 
 // A product and a sum, each rounded once.
@@ -170,19 +133,16 @@ pub fn completion_at(j: Job, start: f64, multiplier: f64) -> f64
     start + j.remaining * multiplier
 }
 
+#[tactic(auto, unfolding(crate::specs::Life::started))]
 pub fn start(j: Job, at: f64) -> Job
     ensures { result ≡ started j at }
 {
-    let ask = j.ask;
     Job {
-        ask: ask,
         state: JobState::Running,
-        since: j.since,
         start: at,
-        remaining: j.remaining,
         waited: j.waited + (at - j.since),
-        evictions: j.evictions,
-        run: std::num::wrapping_add_u32(j.run, 1),
-        timeouts: raise(j.timeouts, ask.gang),
+        run: j.run.wrapping_add(1),
+        timeouts: raise(j.timeouts, j.ask.gang),
+        ..j
     }
 }

@@ -1,19 +1,17 @@
 // The waiting line during a pass: victims join its end, and each join is noted.
 
 ghost use Rattle.std.specs.Prelude.{◌≡◌, take};
-ghost use Rattle.rows.specs.Job.{jobs_of};
 ghost use Rattle.laws.specs.Search.{has};
 ghost use Rattle.line.specs.Line.{new_line, joined, joined_all};
 
 use decision_log::{Kind, Log, tell};
-use eligible::chosen::no_ids;
+use model::job::Job;
 use model::number::{bits_of, is_permitted};
-use model::plan::put_queue;
 use model::sizes::JOBS;
 use model::totals::Totals;
 use noted::after_eviction;
-use rows::job::{ROW, read_job};
-use small::{both, lesser, onward, wide_id};
+use small::onward;
+use tables::{put, read};
 
 // queue holds waiting jobs' numbers; victims those of this pass, evicted of them; ok: every number stored so far is permitted.
 #[derive(Clone, Copy)]
@@ -28,37 +26,35 @@ pub struct Line {
 }
 
 // The line as a pass begins: no victims yet.
+#[tactic(auto, unfolding(crate::specs::Line::new_line, laws::specs::Lists::pad))]
 pub fn new_line(queue: [u16; JOBS], waiting: usize, totals: Totals, log: Log, ok: bool) -> Line
     ensures { result ≡ new_line queue waiting totals log ok }
 {
     Line {
-        queue: queue,
-        waiting: waiting,
-        victims: no_ids(),
+        queue,
+        waiting,
+        victims: [0; JOBS],
         evicted: 0,
-        totals: totals,
-        log: log,
-        ok: ok,
+        totals,
+        log,
+        ok,
     }
 }
 
 // v, whose remaining is what is left of it, made way for the job by.
+#[tactic(auto, unfolding(crate::specs::Line::joined))]
 fn join(line: Line, clock: f64, v: u16, by: u16, remaining: f64) -> Line
     ensures { result ≡ joined clock by line v remaining }
 {
-    let queue = line.queue;
-    let victims = line.victims;
-    let totals = line.totals;
-    let log = line.log;
     let waiting = onward(line.waiting, JOBS);
     Line {
-        queue: put_queue(queue, line.waiting, v),
-        waiting: waiting,
-        victims: put_queue(victims, line.evicted, v),
+        queue: put(line.queue, line.waiting, v),
+        waiting,
+        victims: put(line.victims, line.evicted, v),
         evicted: onward(line.evicted, JOBS),
-        totals: after_eviction(totals, waiting as u64),
-        log: tell(log, bits_of(clock), Kind::Evicted, v, by),
-        ok: both(line.ok, is_permitted(remaining)),
+        totals: after_eviction(line.totals, waiting as u64),
+        log: tell(line.log, bits_of(clock), Kind::Evicted, v, by),
+        ok: line.ok && is_permitted(remaining),
     }
 }
 
@@ -66,22 +62,17 @@ fn join(line: Line, clock: f64, v: u16, by: u16, remaining: f64) -> Line
 pub fn join_all(
     line: Line,
     clock: f64,
-    jobs: &[[u64; ROW]; JOBS],
+    jobs: &[Job; JOBS],
     ids: [u16; JOBS],
     count: usize,
     by: u16,
 ) -> Line
-    ensures { result ≡ joined_all clock (jobs_of jobs.now) by line (take count ids) }
+    ensures { result ≡ joined_all clock jobs.now by line (take count ids) }
 {
-    let n = lesser(count, JOBS);
     let mut after = line;
-    let mut i: usize = 0;
-    while i < n {
-        let v = ids[i];
-        let j = read_job(jobs, wide_id(v));
-        let next = join(after, clock, v, by, j.remaining);
-        after = next;
-        i = i + 1;
+    for v in &ids[..count.min(JOBS)] {
+        let j = read(jobs, usize::from(*v));
+        after = join(after, clock, *v, by, j.remaining);
     }
     after
 }
@@ -90,13 +81,5 @@ pub fn join_all(
 pub fn is_among(ids: [u16; JOBS], count: usize, id: u16) -> bool
     ensures { result ≡ has id (take count ids) }
 {
-    let n = lesser(count, JOBS);
-    let mut i: usize = 0;
-    while i < n {
-        if ids[i] == id {
-            return true;
-        }
-        i = i + 1;
-    }
-    false
+    ids[..count.min(JOBS)].contains(&id)
 }

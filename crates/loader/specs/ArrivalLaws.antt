@@ -1,15 +1,13 @@
 -- Laws of the arrivals: how many, one more, and over an empty room.
-use Rattle.std.specs.Prelude.{◌≡◌, refl, List, [], ◌∷◌, ◌++◌, ℕ, suc, ◌+◌, ◌≤◌, ◌<◌, length, take, set, get_or, replicate}
-use Rattle.std.proofs.Common.{sym, ap, ◌∙◌, add-one, arith, length-take, take-suc, length-take-le, take_all}
+use Rattle.std.specs.Prelude.{◌≡◌, refl, List, [], ◌∷◌, ◌++◌, ℕ, suc, ◌+◌, ◌<◌, length, min, take, set, get_or, replicate}
+use Rattle.std.proofs.Common.{sym, ap, add-one, arith, length-take, take-suc, length-take-le}
 use Rattle.std.proofs.lemmas.List.Edits.{sets}
 use Rattle.laws.specs.Lists.{pad_sets}
+use Rattle.laws.specs.Tables.{take_least}
 use Rattle.model.specs.Sizes as Sizes
-use Rattle.model.specs.Job.{no_job}
 use Rattle.model.specs.Event.{empty_event}
 use Rattle.model.specs.declared.job.Job.{Job}
 use Rattle.model.specs.declared.event.Event.{Event}
-use Rattle.rows.specs.Rows.{same_rows}
-use Rattle.rows.specs.Event.{event_of, events_of, zeros_event}
 use Rattle.loader.specs.Arrivals.{arrival_of, arrivals_from, arrivals, arrivals_over}
 
 pub arrivals_length : (i : ℕ) (js : List Job) → length (arrivals_from i js) ≡ length js
@@ -33,21 +31,21 @@ unfolding arrivals_over arrivals_from
 over_none room jobs = refl
 
 -- one more job is written at its number
-pub over_more : (room : List Event) (jobs : List Job) (i : ℕ) → i < length jobs →
-    set (arrivals_over room jobs i) i (arrival_of i (get_or jobs i no_job)) ≡ arrivals_over room jobs (i + 1)
+pub over_more : (room : List Event) (jobs : List Job) (i : ℕ) (none : Job) → i < length jobs →
+    set (arrivals_over room jobs i) i (arrival_of i (get_or jobs i none)) ≡ arrivals_over room jobs (i + 1)
 unfolding arrivals_over
-over_more room jobs i h =
+over_more room jobs i none h =
     let n : length (take i jobs) ≡ i = length-take-le i jobs (omega arith) in
     let m : 0 + length (arrivals_from 0 (take i jobs)) ≡ i = rw (arrivals_length 0 (take i jobs)) (omega arith) in
     let z : 0 + length (take i jobs) ≡ i = omega arith in
-    let t : arrivals_from 0 (take (i + 1) jobs) ≡ arrivals_from 0 (take i jobs) ++ (arrival_of i (get_or jobs i no_job) ∷ []) =
-    rw (add-one, take-suc jobs i no_job h, arrivals_snoc 0 (take i jobs) (get_or jobs i no_job), z) in
-    sym (rw (t, sets_snoc room 0 (arrivals_from 0 (take i jobs)) (arrival_of i (get_or jobs i no_job)), m))
+    let t : arrivals_from 0 (take (i + 1) jobs) ≡ arrivals_from 0 (take i jobs) ++ (arrival_of i (get_or jobs i none) ∷ []) =
+    rw (add-one, take-suc jobs i none h, arrivals_snoc 0 (take i jobs) (get_or jobs i none), z) in
+    sym (rw (t, sets_snoc room 0 (arrivals_from 0 (take i jobs)) (arrival_of i (get_or jobs i none)), m))
 
 -- past the table nothing is added
-pub over_all : (room : List Event) (jobs : List Job) (i n : ℕ) → length jobs ≤ i → i ≤ n → arrivals_over room jobs i ≡ arrivals_over room jobs n
+pub over_least : (room : List Event) (jobs : List Job) (n : ℕ) → length jobs ≡ Sizes.jobs → arrivals_over room jobs (min n Sizes.jobs) ≡ arrivals_over room jobs n
 unfolding arrivals_over
-over_all room jobs i n h k = let l : length jobs ≤ n = omega arith in rw (take_all i jobs h, take_all n jobs l)
+over_least room jobs n h = rw (take_least n Sizes.jobs jobs (omega arith))
 
 -- over an empty room they are the arrivals
 pub over_empty : (jobs : List Job) (n : ℕ) → length jobs ≡ Sizes.jobs → arrivals_over (replicate Sizes.events empty_event) jobs n ≡ arrivals jobs n
@@ -56,8 +54,3 @@ over_empty jobs n full =
     let m = arrivals_length 0 (take n jobs) in
     let k = length-take n jobs in
     pad_sets Sizes.events empty_event (arrivals_from 0 (take n jobs)) (omega (arith, m, k))
-
--- and over a room of zeros too, which is empty
-pub over_zeros : (jobs : List Job) (n : ℕ) → length jobs ≡ Sizes.jobs → arrivals_over (events_of (replicate Sizes.events (replicate 5 0))) jobs n ≡ arrivals jobs n
-over_zeros jobs n full =
-    ap (λ room. arrivals_over room jobs n) (same_rows event_of Sizes.events (replicate 5 0) empty_event zeros_event) ∙ over_empty jobs n full

@@ -3,8 +3,7 @@ use Rattle.std.specs.Prelude.{Bool, not, ℕ, ltb, eqb, get_or}
 use Rattle.laws.specs.Choice.{pick}
 use Rattle.model.specs.Sizes as Sizes
 use Rattle.model.specs.declared.setting.Setting.{Setting}
-use Rattle.trace.specs.declared.answer.Answer.{Answer}
-use Rattle.trace.specs.declared.answer.Answer.TheVariants.{Accepted, GpuBeforeNode, Repeated, TableFull}
+use Rattle.trace.specs.Answer.{Answer, Accepted, GpuBeforeNode, Repeated, TableFull}
 use Rattle.trace.specs.declared.record.Record.{Record}
 use Rattle.trace.specs.declared.record.Record.TheVariants.{End, Node, Gpu, Quota, Profile, Job, Options}
 

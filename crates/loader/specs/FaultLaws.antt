@@ -4,7 +4,7 @@ use Rattle.std.proofs.Common.{arith, ltb-true}
 use Rattle.std.proofs.lemmas.Bool.{eqb-false}
 use Rattle.laws.specs.Choice.{pick}
 use Rattle.model.specs.Sizes as Sizes
-use Rattle.trace.specs.declared.answer.Answer.TheVariants.{Accepted, GpuBeforeNode, TableFull}
+use Rattle.trace.specs.Answer.{Accepted, GpuBeforeNode, TableFull}
 use Rattle.loader.specs.Fault.{room_for, on_node}
 
 -- room means room

@@ -1,9 +1,9 @@
 -- The tables as they are loaded: each record is put after those before it.
-use Rattle.std.specs.Prelude.{true, false, List, ℕ, ◌+◌, ◌-◌, set, replicate}
+use Rattle.std.specs.Prelude.{true, false, ℕ, ◌+◌, ◌-◌, set, replicate}
 use Rattle.model.specs.Sizes as Sizes
 use Rattle.model.specs.Gpu.{no_gpu}
 use Rattle.model.specs.Job.{new_job, no_job}
-use Rattle.model.specs.Setting.{default_options, empty_setting}
+use Rattle.model.specs.Setting.{empty_setting}
 use Rattle.model.specs.declared.gpu.Gpu.{Gpu}
 use Rattle.model.specs.declared.job.Ask.{Ask}
 use Rattle.model.specs.declared.setting.Setting.{Setting}
@@ -11,21 +11,7 @@ use Rattle.model.specs.declared.setting.Options.{Options}
 use Rattle.trace.specs.declared.record.Card.{Card}
 use Rattle.trace.specs.declared.record.Record.{Record}
 use Rattle.trace.specs.declared.record.Record.TheVariants as R
-use Rattle.rows.specs.Gpu.{gpus_of}
-use Rattle.rows.specs.Job.{jobs_of}
-use Rattle.loader.specs.declared.tables.Tables.{Tables}
-use Rattle.loader.specs.declared.tables.Loading.{Loading}
-
--- the settings, with their tables, which were lent
-abbrev pub setting_of : Loading → List ℕ → List ℕ → List ℕ → Setting
-setting_of t sites quotas mosts = record { sites = sites; nodes = t.nodes; gpus = t.gpus; jobs = t.jobs; quotas = quotas; mosts = mosts; options = t.options }
-
--- the tables, with those that were lent
-abbrev pub whole_tables : Loading → List ℕ → List ℕ → List ℕ → List (List ℕ) → List (List ℕ) → Tables
-whole_tables t sites quotas mosts gpus jobs = record { setting = setting_of t sites quotas mosts; gpus = gpus_of gpus; jobs = jobs_of jobs; told = t.told }
-
-unfoldable pub no_loading : Loading
-no_loading = record { options = default_options; told = false; nodes = 0; gpus = 0; jobs = 0 }
+use Rattle.loader.specs.declared.loading.Tables.{Tables}
 
 -- nothing is loaded yet
 unfoldable pub empty_tables : Tables
@@ -105,19 +91,6 @@ put_ask t ask = record { setting = one_job t.setting; gpus = t.gpus; jobs = set 
 -- 6: the options
 unfoldable pub put_options : Tables → Options → Tables
 put_options t o = record { setting = with_options t.setting o; gpus = t.gpus; jobs = t.jobs; told = true }
-
--- what a node, a GPU, a job and the options change beside the tables
-abbrev pub node_loading : Loading → Loading
-node_loading t = record { options = t.options; told = t.told; nodes = t.nodes + 1; gpus = t.gpus; jobs = t.jobs }
-
-abbrev pub card_loading : Loading → Loading
-card_loading t = record { options = t.options; told = t.told; nodes = t.nodes; gpus = t.gpus + 1; jobs = t.jobs }
-
-abbrev pub ask_loading : Loading → Loading
-ask_loading t = record { options = t.options; told = t.told; nodes = t.nodes; gpus = t.gpus; jobs = t.jobs + 1 }
-
-abbrev pub options_loading : Loading → Options → Loading
-options_loading t o = record { options = o; told = true; nodes = t.nodes; gpus = t.gpus; jobs = t.jobs }
 
 -- The tables after one more record.
 abbrev pub put_record : Tables → Record → Tables

@@ -1,60 +1,66 @@
 // The faults of a whole record: 5, 6 and 7, told after its last field, at its kind.
 
-ghost use Rattle.std.specs.Prelude.{◌≡◌, List, ℕ};
+ghost use Rattle.std.specs.Prelude.{◌≡◌};
 ghost use Rattle.loader.specs.Fault.{room_for, once, on_node, fault_of};
-ghost use Rattle.loader.specs.Tables.{setting_of};
 
-use crate::tables::Loading;
-use model::sizes::{GPUS, JOBS, NODES, PROFILES, TENANTS};
-use rows::list::{byte_at, word_at};
-use trace::answer::Answer;
+use crate::loading::Tables;
+use model::sizes::{GPUS, JOBS, NODES};
+use tables::read;
+use trace::answer::{Fault, Refusal};
 use trace::record::Record;
 
 // A table that holds count of at most size takes one more.
-fn room_for(count: u8, size: usize, at: usize) -> Answer
+fn room_for(count: u8, size: usize, at: usize) -> Result<(), Refusal>
     ensures { result ≡ room_for count size at }
 {
-    if (count as usize) < size {
-        return Answer::Accepted;
+    if usize::from(count) < size {
+        Ok(())
+    } else {
+        Err(Refusal {
+            fault: Fault::TableFull,
+            at,
+        })
     }
-    Answer::TableFull(at)
 }
 
-fn once(told: bool, at: usize) -> Answer
+fn once(told: bool, at: usize) -> Result<(), Refusal>
     ensures { result ≡ once told at }
 {
     if told {
-        return Answer::Repeated(at);
+        Err(Refusal {
+            fault: Fault::Repeated,
+            at,
+        })
+    } else {
+        Ok(())
     }
-    Answer::Accepted
 }
 
-fn on_node(nodes: u8, gpus: u8, at: usize) -> Answer
+fn on_node(nodes: u8, gpus: u8, at: usize) -> Result<(), Refusal>
     ensures { result ≡ on_node nodes gpus at }
 {
     if nodes == 0 {
-        return Answer::GpuBeforeNode(at);
+        Err(Refusal {
+            fault: Fault::GpuBeforeNode,
+            at,
+        })
+    } else {
+        room_for(gpus, GPUS, at)
     }
-    room_for(gpus, GPUS, at)
 }
 
-// The sites have no part in it, so that they are not asked for.
-pub fn fault_of(
-    quotas: &[u64; TENANTS],
-    mosts: &[u8; PROFILES],
-    t: Loading,
-    at: usize,
-    r: Record,
-) -> Answer
-    ensures { (sites : List ℕ) → result ≡ fault_of (setting_of t sites quotas.now mosts.now) t.told at r }
+pub fn fault_of(t: &Tables, at: usize, r: Record) -> Result<(), Refusal>
+    ensures { result ≡ fault_of t.now.setting t.now.told at r }
 {
     match r {
-        Record::End => Answer::Accepted,
-        Record::Node(_) => room_for(t.nodes, NODES, at),
-        Record::Gpu(_) => on_node(t.nodes, t.gpus, at),
-        Record::Quota(tenant, _) => once(word_at(quotas, tenant as usize) != 0, at),
-        Record::Profile(profile, _) => once(byte_at(mosts, profile as usize) != 0, at),
-        Record::Job(_) => room_for(t.jobs, JOBS, at),
+        Record::End => Ok(()),
+        Record::Node(_) => room_for(t.setting.nodes, NODES, at),
+        Record::Gpu(_) => on_node(t.setting.nodes, t.setting.gpus, at),
+        Record::Quota(tenant, _) => { once(read(&t.setting.quotas, usize::from(tenant)) != 0, at) }
+        Record::Profile(profile, _) => {
+            once(read(&t.setting.mosts, usize::from(profile)) != 0, at)
+        }
+        Record::Job(_) => room_for(t.setting.jobs, JOBS, at),
         Record::Options(_) => once(t.told, at),
     }
 }

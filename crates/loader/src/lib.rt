@@ -5,4 +5,4 @@
 pub mod arrivals;
 pub mod fault;
 pub mod load;
-pub mod tables;
+pub mod loading;

@@ -1,18 +1,18 @@
 -- The slices that a MIG job gets.
-use Rattle.std.specs.Prelude.{◌≡◌, Bool, true, false, ◌&&◌, ◌||◌, List, ℕ, ◌-◌, min, leb, ltb, get_or, set}
+use Rattle.std.specs.Prelude.{◌≡◌, Bool, true, false, ◌&&◌, ◌||◌, List, ℕ, ◌-◌, min, leb, ltb, get_or, set, Option, Some, None}
 use Rattle.laws.specs.Choice.{pick}
 use Rattle.model.specs.Sizes as Sizes
 use Rattle.model.specs.Gpu.{no_gpu}
 use Rattle.model.specs.declared.gpu.Gpu.{Gpu}
 use Rattle.mig.specs.Slices.{free_slices, cut_anew, given_slices}
 use Rattle.mig.specs.Table.{first_idle, free_in_all, given_in_order}
-use Rattle.rows.specs.Gpu.{gpus_of}
 use Rattle.mig.specs.declared.allocate.Slices.{Slices}
 use Rattle.mig.specs.declared.allocate.Given.{Given}
 
 -- The answer with the lent table of GPUs.
-abbrev pub whole_slices : Given → List (List ℕ) → Slices
-whole_slices given rows = record { gpus = gpus_of rows; placed = given.placed; cut = given.cut }
+abbrev pub whole_slices : Option Given → List Gpu → Slices
+whole_slices None gpus = record { gpus = gpus; placed = false; cut = false }
+whole_slices (Some given) gpus = record { gpus = gpus; placed = true; cut = given.cut }
 
 -- There are enough free slices of the profile in all.
 unfoldable pub enough_free : List Gpu → ℕ → ℕ → ℕ → Bool

@@ -38,7 +38,8 @@ pub unplaced_same : (gpus : List Gpu) (n profile most want owner : ℕ) → slic
     (slices_allocated gpus n profile most want owner).gpus ≡ gpus
 unfolding slices_allocated
 unplaced_same gpus n profile most want owner h =
-    let r : (enough_free gpus n profile want ≡ false) × (cut_helps gpus n most want ≡ false) = or_none (enough_free gpus n profile want) (cut_helps gpus n most want) h in
+    let r : (enough_free gpus n profile want ≡ false) × (cut_helps gpus n most want ≡ false) =
+    or_none (enough_free gpus n profile want) (cut_helps gpus n most want) h in
     rw (r.0, r.1)
 
 -- ---- free slices are enough
@@ -51,11 +52,17 @@ module _ (gpus : List Gpu) (n profile want owner : ℕ) (table : length gpus ≡
   free_gain o h =
       let a : free_but profile 128 (min n 128) 0 gpus ≡ sum_over (λ g. free_slices g profile) (take n gpus) =
       but_all profile 128 (min n 128) 0 gpus (omega arith) ∙ rw (take_least n 128 gpus (omega arith)) in
-      omega (arith, leb-true want (sum_over (λ g. free_slices g profile) (take n gpus)) h, order_gain profile owner 128 want (min n 128) 0 gpus o sized)
+      omega (
+        arith,
+        leb-true want (sum_over (λ g. free_slices g profile) (take n gpus)) h,
+        order_gain profile owner 128 want
+            (min n 128) 0 gpus o sized,
+      )
 
 -- ---- a GPU is cut
 
-module _ (gpus : List Gpu) (n profile most want owner : ℕ) (table : length gpus ≡ 128) (sized : All Sized gpus) (helps : cut_helps gpus n most want ≡ true) where
+module _ (gpus : List Gpu) (n profile most want owner : ℕ) (table : length gpus ≡ 128) (sized : All Sized gpus)
+    (helps : cut_helps gpus n most want ≡ true) where
   -- the GPU that is cut is in the table
   pub cut_in : first_idle gpus n < min n 128
   unfolding cut_helps
@@ -84,7 +91,8 @@ module _ (gpus : List Gpu) (n profile most want owner : ℕ) (table : length gpu
       omega arith
 
   -- the others give in table order, and it stays out of that
-  pub cut_kept : get_or (given_in_order gpus n profile want owner (first_idle gpus n)) (first_idle gpus n) no_gpu ≡ get_or gpus (first_idle gpus n) no_gpu
+  pub cut_kept : get_or (given_in_order gpus n profile want owner (first_idle gpus n)) (first_idle gpus n) no_gpu
+      ≡ get_or gpus (first_idle gpus n) no_gpu
   unfolding given_in_order
   cut_kept = let z : 0 + first_idle gpus n ≡ first_idle gpus n = omega arith in
       rw z at (order_except profile owner want (min n 128) 0 (first_idle gpus n) gpus)
@@ -95,7 +103,8 @@ module _ (gpus : List Gpu) (n profile most want owner : ℕ) (table : length gpu
   given_length = order_length profile owner (first_idle gpus n) want (min n 128) 0 gpus
 
   -- the others give all that they have, or as many as are wanted
-  pub others_gain : 0 < owner → sum_over (owned_slices owner) (given_in_order gpus n profile want owner (first_idle gpus n)) ≡ sum_over (owned_slices owner)
+  pub others_gain : 0 < owner → sum_over (owned_slices owner) (given_in_order gpus n profile want owner (first_idle gpus n))
+      ≡ sum_over (owned_slices owner)
       gpus + min want (free_elsewhere gpus n profile (first_idle gpus n))
   unfolding given_in_order
   others_gain o = rw (← cut_elsewhere) (order_gain profile owner (first_idle gpus n) want (min n 128) 0 gpus o sized)
@@ -107,7 +116,8 @@ module _ (gpus : List Gpu) (n profile most want owner : ℕ) (table : length gpu
 
   -- of the new slices as many are given as the others leave wanting
   pub new_gain : 0 < owner → most ≤ 7 → owned_slices owner
-      (new_slices (get_or gpus (first_idle gpus n) no_gpu) profile want (free_elsewhere gpus n profile (first_idle gpus n)) owner) ≡ want - free_elsewhere
+      (new_slices (get_or gpus (first_idle gpus n) no_gpu) profile want (free_elsewhere gpus n profile (first_idle gpus n)) owner)
+      ≡ want - free_elsewhere
       gpus n profile (first_idle gpus n)
   unfolding new_slices
   new_gain o h =
@@ -131,9 +141,11 @@ module _ (gpus : List Gpu) (n profile most want owner : ℕ) (table : length gpu
       let new : Gpu = new_slices (get_or gpus at no_gpu) profile want (free_elsewhere gpus n profile at) owner in
       let i : at < min n 128 = cut_in in
       let l : length t ≡ 128 = given_length ∙ table in
-      let s : sum_over (owned_slices owner) (set t at new) + owned_slices owner (get_or t at no_gpu) ≡ sum_over (owned_slices owner) t + owned_slices owner
+      let s : sum_over (owned_slices owner) (set t at new) + owned_slices owner (get_or t at no_gpu)
+      ≡ sum_over (owned_slices owner) t + owned_slices owner
       new = sum_set (owned_slices owner) t at new no_gpu (omega arith) in
-      let z : owned_slices owner (get_or t at no_gpu) ≡ 0 = ap (owned_slices owner) cut_kept ∙ idle_none owner (get_or gpus at no_gpu) o cut_was_idle in
+      let z : owned_slices owner (get_or t at no_gpu) ≡ 0 = ap (owned_slices owner) cut_kept
+      ∙ idle_none owner (get_or gpus at no_gpu) o cut_was_idle in
       let w : free_in_all gpus n profile < want = leb-false want (free_in_all gpus n profile) e in
       let f : free_elsewhere gpus n profile at ≤ free_in_all gpus n profile = elsewhere_most in
       omega (arith, others_gain o, new_gain o h)
@@ -161,7 +173,8 @@ module _ (gpus : List Gpu) (n profile most want owner : ℕ) (table : length gpu
       (λ f. rw f (λ p. absurd (never_both p refl)))))
 
   -- exactly as many as it wants, if it had none
-  pub allocated_want : 0 < owner → most ≤ 7 → sum_over (owned_slices owner) gpus ≡ 0 → (slices_allocated gpus n profile most want owner).placed ≡ true →
+  pub allocated_want : 0 < owner → most ≤ 7 → sum_over (owned_slices owner) gpus ≡ 0 →
+      (slices_allocated gpus n profile most want owner).placed ≡ true →
       sum_over (owned_slices owner) (slices_allocated gpus n profile most want owner).gpus ≡ want
   allocated_want o h z p = omega (arith, allocated_gain o h p)
 
@@ -186,13 +199,15 @@ module _ (gpus : List Gpu) (n profile most want owner : ℕ) (table : length gpu
         s,
         rw s (cut_was_idle gpus n profile most want owner table sized helps),
         rw (s, get_or-set_same t at new no_gpu (omega arith))
-            (given_is (cut_anew (get_or gpus at no_gpu) profile want) profile (want - free_elsewhere gpus n profile at) owner (cut_sized (get_or gpus at no_gpu) profile want)),
+            (given_is (cut_anew (get_or gpus at no_gpu) profile want) profile (want - free_elsewhere gpus n profile at) owner
+            (cut_sized (get_or gpus at no_gpu) profile want)),
       ))
       (λ e. inl (rw (get_or-set_other t at k new no_gpu e) (in_order_lem at k)))
       (eq_or_ne k at)
 
   -- what became of each GPU
-  pub allocated_after : (k : ℕ) → After profile want owner (first_idle gpus n) (get_or gpus k no_gpu) (get_or (slices_allocated gpus n profile most want owner).gpus k no_gpu) k
+  pub allocated_after : (k : ℕ) → After profile want owner (first_idle gpus n) (get_or gpus k no_gpu)
+      (get_or (slices_allocated gpus n profile most want owner).gpus k no_gpu) k
   unfolding slices_allocated
   allocated_after k =
       split
@@ -216,7 +231,8 @@ module _ (gpus : List Gpu) (n profile most want owner : ℕ) (table : length gpu
 
   -- any other owner has a slice after exactly if it had it before
   pub allocated_other : (other k s : ℕ) → 0 < other → (other ≡ owner → ⊥) →
-      eqb (get_or (get_or (slices_allocated gpus n profile most want owner).gpus k no_gpu).owners s 0) other ≡ eqb (get_or (get_or gpus k no_gpu).owners s 0) other
+      eqb (get_or (get_or (slices_allocated gpus n profile most want owner).gpus k no_gpu).owners s 0) other
+      ≡ eqb (get_or (get_or gpus k no_gpu).owners s 0) other
   allocated_other other k s o d =
       ⊎_elim
       (λ a. given_slice profile owner other s (get_or gpus k no_gpu) (get_or (slices_allocated gpus n profile most want owner).gpus k no_gpu) o d a)

@@ -1,19 +1,28 @@
--- General laws on tables changed in place.
-use Rattle.std.specs.Prelude.{◌≡◌, Bool, true, false, ◌&&◌, ltb, eqb, get_or, take, drop, set}
-use Rattle.std.proofs.Math.Path.{refl}
-use Rattle.std.proofs.Common.{sym, ◌∙◌, add-one, drop_of_length-le, take-suc-set, drop-cons, drop-set-lt, take_all, get_or-set_same, lt-ltb, ltb-true}
+-- General laws on tables: places written, and what iterators find in them, fill and add up.
+use Rattle.std.specs.Prelude.{◌≡◌, Bool, true, false, not, cond, ltb, eqb, get_or, take, drop, set}
+use Rattle.std.specs.Array.{IsFromFnResult, IsFromFnResultFrom}
+use denote.Param.Members.{Mut}
+use Rattle.std.specs.Fn.{Called}
+use Rattle.std.specs.Option.{unwrap_or}
+use Rattle.std.specs.declared.option.Option.{Option}
+use Rattle.std.specs.declared.option.Option.TheVariants.{Some, None}
+use Rattle.std.proofs.Math.Path.{refl, subst}
+use Rattle.std.proofs.Common.{sym, ◌∙◌, add-one, take-suc-set, drop-cons, drop-set-lt, get_or-set_same, ltb-false, length-take}
 use Rattle.std.proofs.Math.Logic.{⊎_elim}
-use mathlib.Core.List.{List, [], ◌∷◌, ◌++◌, map, append-nil}
-use Prim.Native.Nat.{ℕ, zero, suc, ◌+◌, ◌-◌, ◌*◌, ◌<◌, ◌≤◌}
+use mathlib.Core.List.{List, [], ◌∷◌, ◌++◌, map}
+use Prim.Native.Nat.{ℕ, zero, suc, ◌+◌, ◌*◌, ◌<◌, ◌≤◌}
 use Rattle.std.proofs.Math.Nat.{suc-mul}
 use native.Mathlib.Omega.{arith}
 use Rattle.std.proofs.Math.ListN.{length, length-set}
-use Rattle.std.proofs.Math.Seq.{append_snoc, take-nil, get_or-set_other}
+use Rattle.std.proofs.Math.Seq.{append_snoc, get_or-set_other, length-take-le}
+use Rattle.std.proofs.lemmas.List.{get_or-map, length-map, same_lists}
+use Rattle.std.proofs.lemmas.List.Folds.{length-prefix_len}
+use Rattle.std.specs.List.{filter, fold, position_or_len, range_with_len, sum_by}
 use Rattle.std.proofs.lemmas.Bool.{eqb-false}
-use Rattle.laws.specs.Tests.{split, and_both, or_none, never_both}
+use Rattle.laws.specs.Tests.{split, or_none, never_both, eq_or_gt}
 use Rattle.laws.specs.Lists.{All, Distinct, all_weaken, all_both}
-use Rattle.laws.specs.Search.{has, has_cases, those, those_step, those_take, those_skip, those_end}
-use Rattle.laws.specs.Sums.{bit, sum_over, sum_set}
+use Rattle.laws.specs.Search.{has, has_cases, those, first}
+use Rattle.laws.specs.Sums.{sum_over, sum_set}
 
 -- a turn of a loop that writes the place at hand: what is before it, the new element, what is made of the rest
 pub turn_set : {A : Type 0} (t r : List A) (i : ℕ) (x : A) → i < length t → take (i + 1) (set t i x) ++ r ≡ take i t ++ (x ∷ r)
@@ -27,17 +36,6 @@ turn_rest t i x = drop-set-lt (i + 1) t i x (omega arith)
 pub turn_drop : {A : Type 0} (t : List A) (i : ℕ) (d : A) → i < length t → drop i t ≡ get_or t i d ∷ drop (i + 1) t
 turn_drop t i d h = rw add-one (drop-cons t i d h)
 
-module _ {A : Type 0} (f : A → A) where
-  -- a turn of a loop that changes each element
-  pub map_turn : (t : List A) (i : ℕ) (d : A) → i < length t →
-      take (i + 1) (set t i (f (get_or t i d))) ++ map f (drop (i + 1) (set t i (f (get_or t i d)))) ≡ take i t ++ map f (drop i t)
-  map_turn t i d h =
-      rw (turn_rest t i (f (get_or t i d)), turn_set t (map f (drop (i + 1) t)) i (f (get_or t i d)) h, turn_drop t i d h)
-
-  -- past the end all are changed
-  pub map_end : (t : List A) (i : ℕ) → length t ≤ i → take i t ++ map f (drop i t) ≡ t
-  map_end t i h = rw (take_all i t h, drop_of_length-le t h, append-nil)
-
 -- ---- the same written to several places
 
 -- x in each of the places
@@ -45,46 +43,71 @@ unfoldable pub put : {A : Type 0} → List A → List ℕ → A → List A
 put t [] x = t
 put t (i ∷ l) x = put (set t i x) l x
 
--- ---- counting those of a range
+-- one place more
+pub put_snoc : {A : Type 0} (t : List A) (l : List ℕ) (i : ℕ) (x : A) → put t (l ++ (i ∷ [])) x ≡ set (put t l x) i x
+unfolding put
+put_snoc t [] i x = refl
+put_snoc t (j ∷ l) i x = put_snoc (set t j x) l i x
 
--- a loop over them starts with all
-pub those_start : (p : ℕ → Bool) (n : ℕ) → those p (n - 0) 0 ≡ those p n 0
-those_start p n = let e : n - 0 ≡ n = omega arith in rw e
+-- ---- those of a range, and the first of them, as iterators find them
 
--- a test counts at most one
-pub bit_most : (b : Bool) → bit b ≤ 1
-bit_most true = omega arith
-bit_most false = omega arith
+-- those of a range are what a filter lets through
+pub those_filter : (p : ℕ → Bool) (n i : ℕ) → those p n i ≡ filter p (range_with_len i n)
+unfolding those
+those_filter p zero i = refl
+those_filter p (suc n) i = split (p i) (λ e. rw (e, those_filter p n (i + 1))) (λ e. rw (e, those_filter p n (i + 1)))
 
--- a turn of a loop that counts
-pub count_turn : (p : ℕ → Bool) (n i : ℕ) → i < n → bit (p i) + length (those p (n - (i + 1)) (i + 1)) ≡ length (those p (n - i) i)
-count_turn p n i h = rw (those_step p n i h) (split (p i) (λ e. rw e (omega arith)) (λ e. rw e (omega arith)))
+module _ {A : Type 0} (q : A → Bool) (l : List A) (d : A) where
+  -- the first of a range of a table's entries is where a search through them stops
+  first_from : (m i : ℕ) → i + m ≤ length l → first (λ k. q (get_or l k d)) m i ≡ i + position_or_len q (take m (drop i l))
+  unfolding first
+  first_from zero i h = omega arith
+  first_from (suc m) i h =
+      rw (turn_drop l i d (omega arith)) (split (q (get_or l i d)) (λ e. rw e (omega arith))
+      (λ e. rw e (omega (arith, first_from m (i + 1) (omega arith)))))
 
--- ---- a loop that writes x to the first so many of those
+  -- the same of what the search answers, with the number of entries for none
+  pub first_position : (m : ℕ) (r : Option ℕ) → m ≤ length l →
+      r ≡ cond (ltb (position_or_len q (take m l)) (length (take m l))) (Some (position_or_len q (take m l))) None →
+      unwrap_or r m ≡ first (λ k. q (get_or l k d)) m 0
+  first_position m r h e =
+      let p : ℕ = position_or_len q (take m l) in
+      let n : length (take m l) ≡ m = length-take-le m l h in
+      let k : length (take p (take m l)) ≡ p = length-prefix_len (λ x. not (q x)) (take m l) in
+      let f : first (λ k. q (get_or l k d)) m 0 ≡ p = omega (arith, first_from m 0 (omega arith)) in
+      rw (e, f) (split (ltb p (length (take m l))) (λ a. rw a)
+      (λ a. rw a (omega (arith, ltb-false p (length (take m l)) a, length-take p (take m l)))))
 
--- one is still to be written
-pub put_left : (left : ℕ) (b : Bool) → (ltb 0 left && b) ≡ true → 0 < left
-put_left left b h = ltb-true 0 left (and_both (ltb 0 left) b h).0
+-- ---- arrays filled by index
 
-module _ {A : Type 0} (p : ℕ → Bool) (n : ℕ) (x : A) where
-  -- a turn that writes
-  pub put_turn : (i left : ℕ) (t : List A) → i < n → (ltb 0 left && p i) ≡ true →
-      put (set t i x) (take (left - 1) (those p (n - (i + 1)) (i + 1))) x ≡ put t (take left (those p (n - i) i)) x
-  unfolding put
-  put_turn i zero t h e = absurd (omega (arith, put_left 0 (p i) e))
-  put_turn i (suc m) t h e =
-      let s : suc m - 1 ≡ m = omega arith in rw (those_take p n i h (and_both (ltb 0 (suc m)) (p i) e).1, s)
+module _ {F A B : Type 0} (g : Mut F (ℕ × Unit {0}) B) (h : A → B) (xs : List A) (d : A) (f : F) (ys : List B)
+    (told : (j : ℕ) (y : B) (q : F) → j < length xs → Called g f (j, tt) y q → (q ≡ f) × (y ≡ h (get_or xs j d))) where
+  filled_from : (n i : ℕ) → i + n ≤ length xs → IsFromFnResultFrom g f ys i n →
+      (k : ℕ) (e : B) → i ≤ k → k < i + n → get_or ys k e ≡ h (get_or xs k d)
+  filled_from zero i l m k e a b = absurd (omega arith)
+  filled_from (suc n) i l m k e a b =
+      let t = told i m.1 m.0 (omega arith) m.3 in
+      ⊎_elim
+      (λ s. rw s (m.2.1 e ∙ t.1))
+      (λ s. filled_from n (i + 1) (omega arith) (subst (λ q. IsFromFnResultFrom g q ys (i + 1) n) t.0 m.4) k e s (omega arith))
+      (eq_or_gt i k a)
 
-  -- a turn that passes over
-  pub put_pass : (i left : ℕ) (t : List A) → i < n → (ltb 0 left && p i) ≡ false →
-      put t (take left (those p (n - (i + 1)) (i + 1))) x ≡ put t (take left (those p (n - i) i)) x
-  put_pass i zero t h e = refl
-  put_pass i (suc m) t h e = rw (those_skip p n i h (rw (lt-ltb 0 (suc m) (omega arith)) at e))
+  -- an array filled with what a function makes of a table's entries is the table's image
+  pub filled_map : (n : ℕ) → length xs ≡ n → IsFromFnResult g f ys n → ys ≡ map h xs
+  filled_map n l filled =
+      same_lists ys (map h xs) (omega (arith, filled.long, length-map xs h))
+      (λ k e b. let c : k < n = omega (arith, filled.long) in
+      filled_from n 0 (omega arith) filled.each k e (omega arith) (omega arith) ∙ sym (get_or-map h xs k d e (omega arith)))
 
-  -- past the range all are written
-  pub put_end : (i left : ℕ) (t : List A) → n ≤ i → t ≡ put t (take left (those p (n - i) i)) x
-  unfolding put
-  put_end i left t h = rw (those_end p n i h, take-nil)
+-- ---- sums, as iterators make them
+
+sum_from : {A : Type 0} (f : A → ℕ) (n : ℕ) (l : List A) → fold (λ a x. a + f x) n l ≡ n + sum_over f l
+unfolding sum_over
+sum_from f n [] = omega arith
+sum_from f n (x ∷ l) = omega (arith, sum_from f (n + f x) l)
+
+pub sum_by_over : {A : Type 0} (f : A → ℕ) (l : List A) → sum_by f l ≡ sum_over f l
+sum_by_over f l = omega (arith, sum_from f 0 l)
 
 -- ---- what several writes change
 
@@ -129,7 +152,8 @@ module _ {A : Type 0} (x : A) where
         arith,
         h.0.1,
         put_sum w d l (set t i x) s.1
-            (all_weaken (λ j. (i ≡ j → ⊥) × ((j < length t) × (w (get_or t j d) ≡ 0))) (λ j. (j < length (set t i x)) × (w (get_or (set t i x) j d) ≡ 0)) l
+            (all_weaken (λ j. (i ≡ j → ⊥) × ((j < length t) × (w (get_or t j d) ≡ 0)))
+            (λ j. (j < length (set t i x)) × (w (get_or (set t i x) j d) ≡ 0)) l
             (λ j q. (rw (length-set t i x) q.1.0, rw (get_or-set_other t i j x d (λ e. q.0 (sym e))) q.1.1))
             (all_both (λ j. i ≡ j → ⊥) (λ j. (j < length t) × (w (get_or t j d) ≡ 0)) l s.0 h.1)),
       )

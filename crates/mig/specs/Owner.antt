@@ -1,8 +1,7 @@
 -- Who owns a GPU or a slice of it.
-use Rattle.std.specs.Prelude.{◌≡◌, Bool, true, false, ◌&&◌, List, [], ◌∷◌, map, ℕ, ◌+◌, ◌<◌, ◌≤◌, eqb, length, get_or, drop}
-use Rattle.std.proofs.Common.{drop_of_length-le, eq-eqb, ne_eqb}
+use Rattle.std.specs.Prelude.{◌≡◌, refl, Bool, true, ◌&&◌, List, [], ◌∷◌, map, ℕ, eqb}
+use Rattle.std.specs.List.{list_all}
 use Rattle.laws.specs.Choice.{pick}
-use Rattle.mig.specs.More.{turn_drop}
 use Rattle.model.specs.declared.gpu.Gpu.{Gpu}
 
 -- None of the slices is owned.
@@ -32,16 +31,7 @@ freed owner g = record {
   owners = map (without_owner owner) g.owners;
 }
 
--- ---- steps of the loop over the slices
-
--- an owned slice: not nobody's
-pub nobodys_owned : (l : List ℕ) (i : ℕ) → i < length l → (get_or l i 0 ≡ 0 → ⊥) → false ≡ nobodys (drop i l)
-nobodys_owned l i h k = rw (turn_drop l i 0 h, ne_eqb (get_or l i 0) 0 k)
-
--- a slice that nobody owns: the rest decides
-pub nobodys_next : (l : List ℕ) (i : ℕ) → i < length l → get_or l i 0 ≡ 0 → nobodys (drop (i + 1) l) ≡ nobodys (drop i l)
-nobodys_next l i h k = rw (turn_drop l i 0 h, eq-eqb (get_or l i 0) 0 k)
-
--- past the end none was owned
-pub nobodys_end : (l : List ℕ) (i : ℕ) → length l ≤ i → true ≡ nobodys (drop i l)
-nobodys_end l i h = rw (drop_of_length-le l h)
+-- none of the slices is owned where each of them is 0
+pub all_nobodys : (l : List ℕ) → list_all (λ x. eqb x 0) l ≡ nobodys l
+all_nobodys [] = refl
+all_nobodys (x ∷ l) = rw (all_nobodys l)

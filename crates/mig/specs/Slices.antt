@@ -1,9 +1,12 @@
 -- The slices of one GPU. A profile is its number plus 1, as the GPU and the job hold it.
-use Rattle.std.specs.Prelude.{Bool, ◌&&◌, List, ℕ, min, eqb, ltb, length, get_or, take, replicate}
+use Rattle.std.specs.Prelude.{◌≡◌, Bool, ◌&&◌, List, map, ℕ, min, eqb, ltb, length, get_or, take, replicate}
+use Rattle.std.specs.List.{filter, range_with_len}
+use Rattle.std.proofs.Common.{sym, ◌∙◌}
+use Rattle.std.proofs.lemmas.List.{map-id}
 use Rattle.laws.specs.Search.{those}
 use Rattle.model.specs.Sizes as Sizes
 use Rattle.model.specs.declared.gpu.Gpu.{Gpu}
-use Rattle.mig.specs.More.{put}
+use Rattle.mig.specs.More.{put, those_filter}
 
 -- A GPU is cut if it has slices.
 abbrev pub cut : Gpu → Bool
@@ -56,3 +59,11 @@ with_owners g owners = record {
 -- The first so many free slices of the profile on the GPU go to the owner.
 unfoldable pub given_slices : Gpu → ℕ → ℕ → ℕ → Gpu
 given_slices g profile most owner = with_owners g (put g.owners (take most (free_on g profile)) owner)
+
+-- the owner written to the first so many that a filter lets through has them all
+pub given_filtered : (g : Gpu) (profile most owner : ℕ) (owners numbers : List ℕ) → owners ≡ put g.owners numbers owner →
+    map (λ x. x) numbers ≡ take most (filter (free_slice g profile) (range_with_len 0 (slice_count g))) →
+    with_owners g owners ≡ given_slices g profile most owner
+unfolding free_on given_slices
+given_filtered g profile most owner owners numbers e f =
+    rw (e, sym (map-id numbers) ∙ f, those_filter (free_slice g profile) (slice_count g) 0)

@@ -21,11 +21,13 @@ use Rattle.mig.specs.Slices.{cut, slice_count, free_slice, free_on, free_slices,
 -- ---- free slices
 
 -- a free slice is one of the GPU's slices, of the profile, and nobody's
-pub free_in : (g : Gpu) (profile k : ℕ) → has k (free_on g profile) ≡ true → (k < g.slices) × (k < 7) × (g.profile ≡ profile) × (get_or g.owners k 0 ≡ 0)
+pub free_in : (g : Gpu) (profile k : ℕ) → has k (free_on g profile) ≡ true →
+    (k < g.slices) × (k < 7) × (g.profile ≡ profile) × (get_or g.owners k 0 ≡ 0)
 unfolding free_on
 free_in g profile k h =
     let r : (0 ≤ k) × (k < 0 + slice_count g) × (free_slice g profile k ≡ true) = those_in (free_slice g profile) (slice_count g) 0 k h in
-    let b : (eqb g.profile profile ≡ true) × (eqb (get_or g.owners k 0) 0 ≡ true) = and_both (eqb g.profile profile) (eqb (get_or g.owners k 0) 0) r.2 in
+    let b : (eqb g.profile profile ≡ true) × (eqb (get_or g.owners k 0) 0 ≡ true) =
+    and_both (eqb g.profile profile) (eqb (get_or g.owners k 0) 0) r.2 in
     (omega arith, omega arith, eqb-true g.profile profile b.0, eqb-true (get_or g.owners k 0) 0 b.1)
 
 -- an uncut GPU has none
@@ -39,7 +41,8 @@ free_uncut g profile h = omega (arith, those_length (free_slice g profile) (slic
 cut_each : (g : Gpu) (profile slices k : ℕ) → k < 7 → free_slice (cut_anew g profile slices) profile k ≡ true
 unfolding cut_anew
 cut_each g profile slices k h =
-    both_and (eqb profile profile) (eqb (get_or (replicate 7 0) k 0) 0) (eq-eqb profile profile refl) (eq-eqb (get_or (replicate 7 0) k 0) 0 (get_or-replicate 7 k 0 0 h))
+    both_and (eqb profile profile) (eqb (get_or (replicate 7 0) k 0) 0) (eq-eqb profile profile refl)
+    (eq-eqb (get_or (replicate 7 0) k 0) 0 (get_or-replicate 7 k 0 0 h))
 
 -- so many slices of the new cut are free
 pub cut_free : (g : Gpu) (profile slices : ℕ) → free_slices (cut_anew g profile slices) profile ≡ min slices 7

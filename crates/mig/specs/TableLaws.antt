@@ -52,7 +52,8 @@ unfolding gives
 gives_free g profile left i except = split (eqb i except) (λ e. rw e (omega arith)) (λ e. rw e (omega arith))
 
 -- with no exception it is all that is free
-pub but_all : (profile except m i : ℕ) (gpus : List Gpu) → i + m ≤ except → free_but profile except m i gpus ≡ sum_over (λ g. free_slices g profile) (take m gpus)
+pub but_all : (profile except m i : ℕ) (gpus : List Gpu) → i + m ≤ except →
+    free_but profile except m i gpus ≡ sum_over (λ g. free_slices g profile) (take m gpus)
 unfolding free_but sum_over
 but_all profile except zero i gpus h = refl
 but_all profile except (suc m) i [] h = refl
@@ -60,7 +61,8 @@ but_all profile except (suc m) i (g ∷ gpus) h =
     rw (ne_eqb i except (λ e. omega arith), but_all profile except m (i + 1) gpus (omega arith))
 
 -- with one GPU after the exception it is all that is free
-pub but_past : (profile except m i : ℕ) (gpus : List Gpu) → except < i → free_but profile except m i gpus ≡ sum_over (λ g. free_slices g profile) (take m gpus)
+pub but_past : (profile except m i : ℕ) (gpus : List Gpu) → except < i →
+    free_but profile except m i gpus ≡ sum_over (λ g. free_slices g profile) (take m gpus)
 unfolding free_but sum_over
 but_past profile except zero i gpus h = refl
 but_past profile except (suc m) i [] h = refl
@@ -78,7 +80,8 @@ but_one profile (suc m) i zero (g ∷ gpus) h l =
 but_one profile (suc m) i (suc k) (g ∷ gpus) h l =
     let e : i + suc k ≡ i + 1 + k = omega arith in
     rw (ne_eqb i (i + suc k) (λ z. omega arith)) (
-    subst (λ x. free_slices g profile + free_but profile x m (i + 1) gpus + free_slices (get_or gpus k no_gpu) profile ≡ free_slices g profile + sum_over (λ g. free_slices g profile) (take m gpus)) (sym e)
+    subst (λ x. free_slices g profile + free_but profile x m (i + 1) gpus + free_slices (get_or gpus k no_gpu) profile
+    ≡ free_slices g profile + sum_over (λ g. free_slices g profile) (take m gpus)) (sym e)
     (omega (arith, but_one profile m (i + 1) k gpus (omega arith) (omega arith))))
 
 -- ---- giving in order
@@ -94,7 +97,8 @@ module _ (profile owner except : ℕ) where
 
   -- the owner holds as many slices more as are wanted, or as there are
   pub order_gain : (left m i : ℕ) (gpus : List Gpu) → 0 < owner → All Sized gpus →
-      sum_over (owned_slices owner) (in_order profile owner except left m i gpus) ≡ sum_over (owned_slices owner) gpus + min left (free_but profile except m i gpus)
+      sum_over (owned_slices owner) (in_order profile owner except left m i gpus)
+      ≡ sum_over (owned_slices owner) gpus + min left (free_but profile except m i gpus)
   unfolding in_order free_but sum_over
   order_gain left zero i gpus o s = omega arith
   order_gain left (suc m) i [] o s = omega arith
@@ -129,7 +133,8 @@ module _ (profile owner except : ℕ) where
       order_given (left - gives g profile left i except) m (i + 1) k gpus s.1
 
 -- the GPU excepted stays as it is
-pub order_except : (profile owner left m i k : ℕ) (gpus : List Gpu) → get_or (in_order profile owner (i + k) left m i gpus) k no_gpu ≡ get_or gpus k no_gpu
+pub order_except : (profile owner left m i k : ℕ) (gpus : List Gpu) →
+    get_or (in_order profile owner (i + k) left m i gpus) k no_gpu ≡ get_or gpus k no_gpu
 unfolding in_order gives
 order_except profile owner left zero i k gpus = refl
 order_except profile owner left (suc m) i k [] = refl

@@ -3,51 +3,42 @@
 ghost use Rattle.std.specs.Prelude.{◌≡◌};
 ghost use Rattle.mig.specs.Slices.{slice_count, free_slice, free_slices, cut_anew, given_slices};
 
-use model::gpu::{Gpu, slice_owner_at};
+use model::gpu::Gpu;
 use model::sizes::SLICES;
-use small::{both, lesser, one_if, wide};
+use tables::{read, write};
 
 pub fn slice_count(g: Gpu) -> usize
     ensures { result ≡ slice_count g }
 {
-    lesser(wide(g.slices), SLICES)
+    usize::from(g.slices).min(SLICES)
 }
 
 // Whether the slice is one of the profile and nobody's.
 pub fn is_free_slice(g: Gpu, profile: u8, i: usize) -> bool
     ensures { result ≡ free_slice g profile i }
 {
-    let owners = g.owners;
-    both(g.profile == profile, slice_owner_at(owners, i) == 0)
+    g.profile == profile && read(&g.owners, i) == 0
 }
 
 pub fn free_slices(g: Gpu, profile: u8) -> usize
     ensures { result ≡ free_slices g profile }
 {
-    let n = slice_count(g);
-    let mut k: usize = 0;
-    let mut i: usize = 0;
-    while i < n {
-        k += one_if(is_free_slice(g, profile, i));
-        i += 1;
-    }
-    k
+    (0..slice_count(g))
+        .filter(|i| is_free_slice(g, profile, *i))
+        .count()
 }
 
 // Nobody's, and cut for the profile into so many free slices.
+#[tactic(auto, unfolding(crate::specs::Slices::cut_anew))]
 pub fn cut_anew(g: Gpu, profile: u8, slices: u8) -> Gpu
     ensures { result ≡ cut_anew g profile slices }
 {
     Gpu {
-        node: g.node,
-        kind: g.kind,
-        memory: g.memory,
-        group: g.group,
-        mig: g.mig,
         owner: 0,
-        profile: profile,
-        slices: slices,
+        profile,
+        slices,
         owners: [0; SLICES],
+        ..g
     }
 }
 
@@ -55,18 +46,10 @@ pub fn cut_anew(g: Gpu, profile: u8, slices: u8) -> Gpu
 pub fn give_slices(g: Gpu, profile: u8, most: usize, owner: u16) -> Gpu
     ensures { result ≡ given_slices g profile most owner }
 {
-    let n = slice_count(g);
     let mut owners = g.owners;
-    let mut left = most;
-    let mut i: usize = 0;
-    while i < n {
-        if both(left > 0, is_free_slice(g, profile, i)) {
-            owners[i] = owner;
-            left -= 1;
-        }
-        i += 1;
+    let free = (0..slice_count(g)).filter(|i| is_free_slice(g, profile, *i));
+    for i in free.take(most) {
+        write(&mut owners, i, owner);
     }
-    let mut h = g;
-    h.owners = owners;
-    h
+    Gpu { owners, ..g }
 }

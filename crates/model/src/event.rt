@@ -3,7 +3,9 @@
 ghost use Rattle.std.specs.Prelude.{◌≡◌};
 ghost use Rattle.model.specs.Event.{empty_event};
 
-#[derive(Clone, Copy)]
+use tables::Entry;
+
+#[derive(Clone, Copy, PartialEq, Eq)]
 pub enum EventKind {
     Empty,
     Arrival,
@@ -21,14 +23,16 @@ pub struct Event {
     pub generation: u32,
 }
 
-pub fn empty_event() -> Event
-    ensures { result ≡ empty_event }
-{
-    Event {
-        time: 0.0,
-        number: 0,
-        kind: EventKind::Empty,
-        job: 0,
-        generation: 0,
+impl Entry for Event {
+    ghost none = { empty_event };
+
+    fn none() -> Event {
+        Event {
+            time: 0.0,
+            number: 0,
+            kind: EventKind::Empty,
+            job: 0,
+            generation: 0,
+        }
     }
 }

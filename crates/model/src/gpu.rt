@@ -1,9 +1,10 @@
 // A GPU of the table: what the trace says of it, its owner and the owners of its slices.
 
-ghost use Rattle.std.specs.Prelude.{◌≡◌, get_or};
+ghost use Rattle.std.specs.Prelude.{◌≡◌};
 ghost use Rattle.model.specs.Gpu.{no_gpu};
 
 use crate::sizes::SLICES;
+use tables::Entry;
 
 // An owner is a job's number plus 1, or 0 for nobody; group and profile are stored likewise.
 #[repr(C)]
@@ -20,27 +21,20 @@ pub struct Gpu {
     pub owners: [u16; SLICES],
 }
 
-pub fn no_gpu() -> Gpu
-    ensures { result ≡ no_gpu }
-{
-    Gpu {
-        node: 0,
-        kind: 0,
-        memory: 0.0,
-        group: 0,
-        mig: false,
-        owner: 0,
-        profile: 0,
-        slices: 0,
-        owners: [0; SLICES],
-    }
-}
+impl Entry for Gpu {
+    ghost none = { no_gpu };
 
-pub fn slice_owner_at(owners: [u16; SLICES], i: usize) -> u16
-    ensures { result ≡ get_or owners i 0 }
-{
-    if i < SLICES {
-        return owners[i];
+    fn none() -> Gpu {
+        Gpu {
+            node: 0,
+            kind: 0,
+            memory: 0.0,
+            group: 0,
+            mig: false,
+            owner: 0,
+            profile: 0,
+            slices: 0,
+            owners: [0; SLICES],
+        }
     }
-    0
 }

@@ -1,12 +1,13 @@
 // A job of the table: what the trace asks for it, and what steps change.
 
-ghost use Rattle.std.specs.Prelude.{◌≡◌, get_or};
+ghost use Rattle.std.specs.Prelude.{◌≡◌};
 ghost use Rattle.model.specs.Job.{no_ask, new_job, no_job};
 
 use crate::sizes::JOBS;
+use tables::Entry;
 
 // Placed: chosen in the present pass and not yet started; no plan between two steps holds it.
-#[derive(Clone, Copy)]
+#[derive(Clone, Copy, PartialEq, Eq)]
 pub enum JobState {
     Pending,
     Waiting,
@@ -73,11 +74,12 @@ pub fn no_ask() -> Ask
 }
 
 // A job that has not arrived yet, with its whole duration before it.
+#[tactic(auto, unfolding(crate::specs::Job::new_job))]
 pub fn new_job(ask: Ask) -> Job
     ensures { result ≡ new_job ask }
 {
     Job {
-        ask: ask,
+        ask,
         state: JobState::Pending,
         since: 0.0,
         start: 0.0,
@@ -89,17 +91,11 @@ pub fn new_job(ask: Ask) -> Job
     }
 }
 
-pub fn no_job() -> Job
-    ensures { result ≡ no_job }
-{
-    new_job(no_ask())
-}
+impl Entry for Job {
+    ghost none = { no_job };
 
-pub fn job_at(jobs: [Job; JOBS], i: usize) -> Job
-    ensures { result ≡ get_or jobs i no_job }
-{
-    if i < JOBS {
-        return jobs[i];
+    #[tactic(auto, unfolding(crate::specs::Job::no_job))]
+    fn none() -> Job {
+        new_job(no_ask())
     }
-    no_job()
 }

@@ -10,9 +10,10 @@ pub fn bits_of(x: f64) -> u64
     ensures { result ≡ bits_of x }
 {
     if x == x {
-        return f64::to_bits(x);
+        x.to_bits()
+    } else {
+        0x7ff8_0000_0000_0000
     }
-    0x7ff8_0000_0000_0000
 }
 
 pub fn is_permitted(x: f64) -> bool

@@ -1,6 +1,6 @@
 // What the trace says of the house: nodes, quotas, profiles, options, and how many of each record were loaded.
 
-ghost use Rattle.std.specs.Prelude.{◌≡◌, get_or};
+ghost use Rattle.std.specs.Prelude.{◌≡◌};
 ghost use Rattle.model.specs.Setting.{default_options, empty_setting};
 
 use crate::sizes::{NODES, PROFILES, TENANTS};
@@ -54,31 +54,4 @@ pub fn empty_setting() -> Setting
         mosts: [0; PROFILES],
         options: default_options(),
     }
-}
-
-pub fn site_at(sites: [u8; NODES], i: usize) -> u8
-    ensures { result ≡ get_or sites i 0 }
-{
-    if i < NODES {
-        return sites[i];
-    }
-    0
-}
-
-pub fn quota_at(quotas: [u64; TENANTS], i: usize) -> u64
-    ensures { result ≡ get_or quotas i 0 }
-{
-    if i < TENANTS {
-        return quotas[i];
-    }
-    0
-}
-
-pub fn most_at(mosts: [u8; PROFILES], i: usize) -> u8
-    ensures { result ≡ get_or mosts i 0 }
-{
-    if i < PROFILES {
-        return mosts[i];
-    }
-    0
 }

@@ -1,8 +1,12 @@
 -- The rank of a GPU: whoever has at least as high a priority could have it, as far as its owner goes.
-use Rattle.std.specs.Prelude.{◌≡◌, Bool, true, false, ◌&&◌, List, [], ◌∷◌, map, ℕ, ◌+◌, ◌-◌, ◌≤◌, ◌<◌, min, eqb, ltb, leb, length, get_or, take}
-use Rattle.std.proofs.Common.{arith, length-append, eq-eqb, ne_eqb, le-leb, lt-ltb, le-ltb}
+use Rattle.std.specs.Prelude.{◌≡◌, Bool, true, false, ◌&&◌, List, [], ◌∷◌, map, ℕ, zero, suc, ◌+◌, ◌-◌, ◌≤◌, ◌<◌, min, eqb, ltb, leb, length, get_or, take}
+use Rattle.std.specs.List.{count_by, filter}
+use Rattle.std.proofs.Common.{refl, ◌∙◌, add-one, arith, length-append, le-leb, lt-ltb}
 use Rattle.std.proofs.lemmas.Bool.{lt-leb}
+use Rattle.std.proofs.lemmas.List.Sums.{length-filter, count_by_more_yes, count_by_more_no}
+use borrow.Author.Tests.{leb-true, leb-false}
 use Rattle.laws.specs.Choice.{pick}
+use Rattle.laws.specs.Tests.{split}
 use Rattle.laws.specs.Lists.{pad}
 use Rattle.laws.specs.Search.{those, those_next_take, those_next_skip}
 use Rattle.model.specs.Sizes as Sizes
@@ -38,48 +42,35 @@ low_at ranks priority i = ltb i (length ranks) && leb (get_or ranks i 0) priorit
 unfoldable pub low_ranks : List ℕ → ℕ → ℕ → ℕ
 low_ranks ranks n priority = length (those (low_at ranks priority) (min n (length ranks)) 0)
 
--- ---- the cases, one for each return of the code
-
-module _ (j : Job) (b : Bool) (is : b ≡ (running j && ltb j.evictions 3)) where
-  pub holder_leaves : b ≡ true → j.ask.priority + 1 ≡ holder_rank j
-  unfolding holder_rank
-  holder_leaves h = rw (← is, h)
-
-  pub holder_barred : b ≡ false → 4294967296 ≡ holder_rank j
-  unfolding holder_rank
-  holder_barred h = rw (← is, h)
-
-module _ (jobs : List Job) (owner : ℕ) where
-  pub rank_none : owner ≡ 0 → 0 ≡ rank_of jobs owner
-  unfolding rank_of
-  rank_none h = rw (eq-eqb owner 0 h)
-
-  pub rank_held : (r : ℕ) → (owner ≡ 0 → ⊥) → r ≡ holder_rank (get_or jobs (owner - 1) no_job) → r ≡ rank_of jobs owner
-  unfolding rank_of
-  rank_held r h e = rw (ne_eqb owner 0 h) e
+-- ---- the count of those that are low
 
 module _ (ranks : List ℕ) (priority i : ℕ) where
-  pub low_in : i < length ranks → leb (get_or ranks i 0) priority ≡ low_at ranks priority i
-  low_in h = rw (lt-ltb i (length ranks) h)
-
-  pub low_past : length ranks ≤ i → false ≡ low_at ranks priority i
-  low_past h = rw (le-ltb i (length ranks) h)
-
-  -- ---- the turns of the loop that counts
-
-  pub low_take : (k : ℕ) → i < length ranks → get_or ranks i 0 ≤ priority → k ≡ length (those (low_at ranks priority) i 0) →
+  low_take : (k : ℕ) → i < length ranks → get_or ranks i 0 ≤ priority → k ≡ length (those (low_at ranks priority) i 0) →
       k + 1 ≡ length (those (low_at ranks priority) (i + 1) 0)
   low_take k h l e =
       let t : low_at ranks priority i ≡ true = rw (lt-ltb i (length ranks) h, le-leb (get_or ranks i 0) priority l) in
       rw (those_next_take (low_at ranks priority) i t) (omega (arith, e, length-append (those (low_at ranks priority) i 0) (i ∷ [])))
 
-  pub low_skip : (k : ℕ) → i < length ranks → priority < get_or ranks i 0 → k ≡ length (those (low_at ranks priority) i 0) →
+  low_skip : (k : ℕ) → i < length ranks → priority < get_or ranks i 0 → k ≡ length (those (low_at ranks priority) i 0) →
       k ≡ length (those (low_at ranks priority) (i + 1) 0)
   low_skip k h l e =
       let t : low_at ranks priority i ≡ false = rw (lt-ltb i (length ranks) h, lt-leb (get_or ranks i 0) priority l) in
       rw (those_next_skip (low_at ranks priority) i t) e
 
--- past the last rank all are counted
-pub low_end : (ranks : List ℕ) (n priority m i : ℕ) → m ≡ min n (length ranks) → i ≡ m → length (those (low_at ranks priority) i 0) ≡ low_ranks ranks n priority
-unfolding low_ranks
-low_end ranks n priority m i e h = rw (h, e)
+-- the ranks of the first m that are low, counted
+pub low_counted : (ranks : List ℕ) (priority m : ℕ) → m ≤ length ranks →
+    length (filter (λ r. leb r priority) (take m ranks)) ≡ length (those (low_at ranks priority) m 0)
+unfolding those
+low_counted ranks priority m h = length-filter (λ r. leb r priority) (take m ranks) ∙ counted m h
+  where
+    turn : (i : ℕ) → i < length ranks → count_by (λ r. leb r priority) (take i ranks) ≡ length (those (low_at ranks priority) i 0) →
+        count_by (λ r. leb r priority) (take (i + 1) ranks) ≡ length (those (low_at ranks priority) (i + 1) 0)
+    turn i h e =
+        split
+        (leb (get_or ranks i 0) priority)
+        (λ t. count_by_more_yes (λ r. leb r priority) ranks i 0 h t ∙ low_take ranks priority i (count_by (λ r. leb r priority) (take i ranks)) h (leb-true (get_or ranks i 0) priority t) e)
+        (λ f. count_by_more_no (λ r. leb r priority) ranks i 0 h f ∙ low_skip ranks priority i (count_by (λ r. leb r priority) (take i ranks)) h (leb-false (get_or ranks i 0) priority f) e)
+
+    counted : (i : ℕ) → i ≤ length ranks → count_by (λ r. leb r priority) (take i ranks) ≡ length (those (low_at ranks priority) i 0)
+    counted zero h = refl
+    counted (suc i) h = let e = turn i (omega arith) (counted i (omega arith)) in rw add-one at e

@@ -1,13 +1,14 @@
 -- A GPU within reach has a rank of at most the job's priority: so most fall out at one comparison.
 use Rattle.std.specs.Prelude.{◌≡◌, Bool, false, ◌&&◌, List, map, ℕ, ◌-◌, ◌≤◌, ◌<◌, min, eqb, ltb, leb, take}
 use Rattle.std.proofs.Math.Path.{ap}
-use Rattle.std.proofs.Common.{◌∙◌, arith, length-take, get_or-take, ltb-true, le-leb, lt-ltb}
+use Rattle.std.proofs.Common.{sym, ◌∙◌, ⊎_elim, arith, length-take, get_or-take, ltb-true, le-leb, lt-ltb}
 use Rattle.std.proofs.Math.Bool.{true}
 use Rattle.std.proofs.Math.ListN.{length, get_or, get_or-map}
 use Rattle.std.proofs.lemmas.List.{length-map}
-use Rattle.laws.specs.Tests.{split, fails, never_both, and_both, both_and}
+use Rattle.laws.specs.Tests.{split, fails, never_both, and_both, both_and, le_or_lt}
 use Rattle.laws.specs.Lists.{pad_length, pad_get_d}
 use Rattle.laws.specs.Search.{those_more}
+use Rattle.laws.specs.Tables.{past_read}
 use Rattle.model.specs.Gpu.{no_gpu}
 use Rattle.model.specs.Job.{no_job}
 use Rattle.model.specs.declared.gpu.Gpu.{Gpu}
@@ -42,6 +43,14 @@ module _ (gpus : List Gpu) (jobs : List Job) (n : ℕ) where
   ranks_at i h =
       pad_get_d 128 0 (map (gpu_rank jobs) (take (min n 128) gpus)) i ranks_fit ∙ get_or-map (gpu_rank jobs) (take (min n 128) gpus) i no_gpu
       ∙ ap (gpu_rank jobs) (get_or-take (min n 128) gpus i no_gpu h)
+
+  -- past them stands 0
+  ranks_past : (i : ℕ) → min n 128 ≤ i → get_or (ranks_of gpus jobs n) i 0 ≡ 0
+  unfolding ranks_of
+  ranks_past i h =
+      let l : List ℕ = map (gpu_rank jobs) (take (min n 128) gpus) in
+      let e : length l ≤ i = omega (arith, length-map (take (min n 128) gpus) (gpu_rank jobs), length-take (min n 128) gpus) in
+      pad_get_d 128 0 l i ranks_fit ∙ sym (past_read l i 0 e)
 
 -- ---- what is within reach is low
 
@@ -79,9 +88,27 @@ module _ (aware : Bool) (gpus : List Gpu) (n : ℕ) (sites : List ℕ) (jobs : L
       (lt-ltb i (length (ranks_of gpus jobs n)) (omega arith))
       (le-leb (get_or (ranks_of gpus jobs n) i 0) ask.priority (omega (arith, e, free_low aware jobs ask g.owner f))))
 
+  -- past the first n GPUs every rank is low
+  past_low : (i : ℕ) → i < 128 → min n 128 ≤ i → low_at ranks ask.priority i ≡ true
+  past_low i h p =
+      let l : length (ranks_of gpus jobs n) ≡ 128 = ranks_length gpus jobs n in
+      let e : get_or (ranks_of gpus jobs n) i 0 ≡ 0 = ranks_past gpus jobs n i p in
+      rw is
+      (both_and
+      (ltb i (length (ranks_of gpus jobs n)))
+      (leb (get_or (ranks_of gpus jobs n) i 0) ask.priority)
+      (lt-ltb i (length (ranks_of gpus jobs n)) (omega arith))
+      (le-leb (get_or (ranks_of gpus jobs n) i 0) ask.priority (omega (arith, e))))
+
   -- so a GPU of a high rank is out of reach
-  pub high_out : (i : ℕ) → i < min n 128 → low_at ranks ask.priority i ≡ false → reachable_at aware sites jobs ask gpus i ≡ false
-  high_out i h f = fails (reachable_at aware sites jobs ask gpus i) (λ t. never_both (reach_low i h t) f)
+  pub high_out : (i : ℕ) → i < 128 → low_at ranks ask.priority i ≡ false → reachable_at aware sites jobs ask gpus i ≡ false
+  high_out i h f =
+      fails (reachable_at aware sites jobs ask gpus i)
+      (λ t. never_both (⊎_elim (λ a. past_low i h a) (λ a. reach_low i a t) (le_or_lt (min n 128) i)) f)
+
+  -- and the rank may be looked at first
+  pub low_first : (i : ℕ) → i < 128 → (low_at ranks ask.priority i && reachable_at aware sites jobs ask gpus i) ≡ reachable_at aware sites jobs ask gpus i
+  low_first i h = split (low_at ranks ask.priority i) (λ t. rw t) (λ f. rw f (sym (high_out i h f)))
 
   -- and no more are within reach than are low
   reach_most : length (reachables aware gpus n sites jobs ask) ≤ low_ranks ranks n ask.priority

@@ -1,6 +1,5 @@
 -- A waiting job is seen to stay: too few GPUs or over its quota even if every candidate for it left; no slices for a MIG job.
-use Rattle.std.specs.Prelude.{◌≡◌, Bool, true, not, ◌&&◌, ◌||◌, List, ℕ, ◌+◌, ◌-◌, ◌≤◌, ◌<◌, min, eqb, length, get_or, take}
-use Rattle.std.proofs.Common.{sym, ap, ◌∙◌}
+use Rattle.std.specs.Prelude.{◌≡◌, Bool, true, not, ◌&&◌, ◌||◌, List, ℕ, ◌+◌, ◌-◌, ◌≤◌, ◌<◌, min, eqb, length, get_or, take, refl, Option, Some, None, is_some, is_none}
 use Rattle.std.proofs.Math.Bool.{false}
 use native.Mathlib.Omega.{arith}
 use Rattle.std.proofs.Math.Dec.{leb}
@@ -9,7 +8,6 @@ use Rattle.laws.specs.Choice.{pick}
 use Rattle.laws.specs.Tests.{split}
 use Rattle.laws.specs.Search.{those}
 use Rattle.laws.specs.Sums.{sum_over, sum_next}
-use Rattle.laws.specs.Tables.{take_least}
 use Rattle.model.specs.Sizes as Sizes
 use Rattle.model.specs.Gpu.{no_gpu}
 use Rattle.model.specs.Job.{no_job}
@@ -25,7 +23,7 @@ use Rattle.eligible.specs.Eligible.{site_of}
 use Rattle.choice.specs.Why.{is_enough, why_not}
 use Rattle.choice.specs.declared.why.Why.{Why}
 use Rattle.resource.specs.Quota.{kept_quota}
-use Rattle.resource.specs.Cause.{resource_cause, is_none}
+use Rattle.resource.specs.Cause.{resource_cause}
 use Rattle.preemptive.specs.Candidate.{candidate, candidate_at}
 use Rattle.line.specs.Keep.{waits}
 
@@ -72,32 +70,20 @@ stay s gpus jobs id =
     let j = get_or jobs id no_job in
     pick (waits j) (pick (eqb j.ask.profile 0) (whole_stays s gpus jobs j.ask) (not (is_none (resource_cause s gpus j)))) true
 
--- ---- the cases, one for each return of the code
+-- ---- the cases
 
-module _ (aware : Bool) (jobs : List Job) (ask : Ask) (owner : ℕ) where
-  pub free_now : owner ≡ 0 → true ≡ may_be_free aware jobs ask owner
-  free_now h = rw (eq-eqb owner 0 h)
+-- what is some is not none
+pub some_not_none : {A : Type 0} (o : Option A) → is_some o ≡ not (is_none o)
+some_not_none None = refl
+some_not_none (Some x) = refl
 
-  pub free_then : (r : Bool) → (owner ≡ 0 → ⊥) → r ≡ candidate_at aware jobs ask (owner - 1) → r ≡ may_be_free aware jobs ask owner
-  free_then r h e = rw (ne_eqb owner 0 h) e
+pub free_then : (aware : Bool) (jobs : List Job) (ask : Ask) (owner : ℕ) (r : Bool) → (owner ≡ 0 → ⊥) → r ≡ candidate_at aware jobs ask (owner - 1) →
+    r ≡ may_be_free aware jobs ask owner
+free_then aware jobs ask owner r h e = rw (ne_eqb owner 0 h) e
 
-module _ (aware : Bool) (sites : List ℕ) (jobs : List Job) (ask : Ask) (g : Gpu) where
-  pub reach_could : (r : Bool) → may_be_free aware jobs ask g.owner ≡ true → r ≡ eligible ask (site_of sites g) (with_owner 0 g) → r ≡ reachable aware sites jobs ask g
-  unfolding reachable
-  reach_could r h e = e ∙ split (eligible ask (site_of sites g) (with_owner 0 g)) (λ t. rw (t, h)) (λ t. rw t)
-
-  pub reach_not : may_be_free aware jobs ask g.owner ≡ false → false ≡ reachable aware sites jobs ask g
-  unfolding reachable
-  reach_not h = split (eligible ask (site_of sites g) (with_owner 0 g)) (λ t. rw (t, h)) (λ t. rw t)
-
-module _ (aware : Bool) (ask : Ask) (j : Job) where
-  pub charge_gone : candidate aware ask j ≡ true → 0 ≡ kept_charge aware ask j
-  unfolding kept_charge
-  charge_gone h = rw h
-
-  pub charge_kept : candidate aware ask j ≡ false → charge_to ask.tenant j ≡ kept_charge aware ask j
-  unfolding kept_charge
-  charge_kept h = rw h
+pub charge_gone : (aware : Bool) (ask : Ask) (j : Job) → candidate aware ask j ≡ true → 0 ≡ kept_charge aware ask j
+unfolding kept_charge
+charge_gone aware ask j h = rw h
 
 module _ (s : Setting) (jobs : List Job) (ask : Ask) where
   pub over_no_tenant : ask.tenant ≡ 0 → false ≡ is_over s jobs ask
@@ -110,69 +96,26 @@ module _ (s : Setting) (jobs : List Job) (ask : Ask) where
     over_no_entry k = rw (ne_eqb ask.tenant 0 some, eq-eqb (kept_quota s ask.tenant) 0 k)
 
     module _ (entry : kept_quota s ask.tenant ≡ 0 → ⊥) (used : ℕ) (is : used ≡ used_at_least s.options.aware s.jobs jobs ask) where
-      pub over_spent : kept_quota s ask.tenant ≤ used → true ≡ is_over s jobs ask
+      pub over_left : leb (kept_quota s ask.tenant - used) ask.count ≡ is_over s jobs ask
       unfolding is_over
-      over_spent l = rw (
-        ne_eqb ask.tenant 0 some,
-        ne_eqb (kept_quota s ask.tenant) 0 entry,
-        ← is,
-        le-leb (kept_quota s ask.tenant) (used + ask.count) (omega arith),
-      )
-
-      pub over_left : used < kept_quota s ask.tenant → leb (kept_quota s ask.tenant - used) ask.count ≡ is_over s jobs ask
-      unfolding is_over
-      over_left l = rw (ne_eqb ask.tenant 0 some, ne_eqb (kept_quota s ask.tenant) 0 entry, ← is) (left (kept_quota s ask.tenant) used ask.count l)
+      over_left = rw (ne_eqb ask.tenant 0 some, ne_eqb (kept_quota s ask.tenant) 0 entry, ← is) (left (kept_quota s ask.tenant) used ask.count)
         where
-          left : (kept used count : ℕ) → used < kept → leb (kept - used) count ≡ leb kept (used + count)
-          left kept used count g =
+          left : (kept used count : ℕ) → leb (kept - used) count ≡ leb kept (used + count)
+          left kept used count =
               split (leb (kept - used) count)
               (λ e. let p : kept - used ≤ count = leb-true (kept - used) count e in let q : kept ≤ used + count = omega arith in rw (e, le-leb kept (used + count) q))
               (λ e. let p : count < kept - used = leb-false (kept - used) count e in let q : used + count < kept = omega arith in rw (e, lt-leb kept (used + count) q))
 
 module _ (s : Setting) (gpus : List Gpu) (jobs : List Job) (ask : Ask) where
   -- the keys may be any that give the same cause
-  pub short_looked : (why : Why) (keys l : List ℕ) → why ≡ why_not keys l ask → why_not keys l ask ≡ why_not (node_keys gpus) l ask →
-      l ≡ reachables s.options.aware gpus s.gpus s.sites jobs ask → not (is_enough why) ≡ is_short s gpus jobs ask
+  pub short_looked : (why : Option Why) (keys l : List ℕ) → why ≡ why_not keys l ask → why_not keys l ask ≡ why_not (node_keys gpus) l ask →
+      l ≡ reachables s.options.aware gpus s.gpus s.sites jobs ask → is_some why ≡ is_short s gpus jobs ask
   unfolding is_short
-  short_looked why keys l e f g = rw (e, f, g)
+  short_looked why keys l e f g = rw (← g, ← f, ← e) (some_not_none why)
 
-  pub whole_short : is_short s gpus jobs ask ≡ true → true ≡ whole_stays s gpus jobs ask
-  unfolding whole_stays
-  whole_short h = rw h
-
-  pub whole_enough : is_short s gpus jobs ask ≡ false → is_over s jobs ask ≡ whole_stays s gpus jobs ask
-  unfolding whole_stays
-  whole_enough h = rw h
-
-module _ (s : Setting) (gpus : List Gpu) (jobs : List Job) (id : ℕ) (j : Job) (is : j ≡ get_or jobs id no_job) where
-  pub stay_other : waits j ≡ false → true ≡ stay s gpus jobs id
-  unfolding stay
-  stay_other f = let u : waits (get_or jobs id no_job) ≡ false = rw (← is) f in rw u
-
-  pub stay_whole : waits j ≡ true → j.ask.profile ≡ 0 → whole_stays s gpus jobs j.ask ≡ stay s gpus jobs id
-  unfolding stay
-  stay_whole t z = rw (← is, t, eq-eqb j.ask.profile 0 z)
-
-  pub stay_mig : waits j ≡ true → (j.ask.profile ≡ 0 → ⊥) → not (is_none (resource_cause s gpus j)) ≡ stay s gpus jobs id
-  unfolding stay
-  stay_mig t z = rw (← is, t, ne_eqb j.ask.profile 0 z)
-
--- ---- the turns of the loops
-
--- the test of the code is that of the definition
-pub reach_read : (aware : Bool) (sites : List ℕ) (jobs : List Job) (ask : Ask) (gpus : List Gpu) (i : ℕ) (g : Gpu) (r : Bool) →
-    g ≡ get_or gpus i no_gpu → r ≡ reachable aware sites jobs ask g → reachable_at aware sites jobs ask gpus i ≡ r
-reach_read aware sites jobs ask gpus i g r e f = sym (f ∙ rw e)
+-- ---- the turns of the loop
 
 -- a turn adds what the job at hand costs
-pub used_turn : (aware : Bool) (jobs : List Job) (ask : Ask) (i sum r : ℕ) (j : Job) → i < length jobs →
-    sum ≡ sum_over (kept_charge aware ask) (take i jobs) → j ≡ get_or jobs i no_job → r ≡ kept_charge aware ask j → sum + r ≡ sum_over (kept_charge aware ask) (take (i + 1) jobs)
-used_turn aware jobs ask i sum r j h e f g =
-    let k : r ≡ kept_charge aware ask (get_or jobs i no_job) = g ∙ ap (kept_charge aware ask) f in
-    omega (arith, e, k, sum_next (kept_charge aware ask) jobs i no_job h)
-
--- past the last job all are added
-pub used_end : (aware : Bool) (jobs : List Job) (ask : Ask) (n m i : ℕ) → m ≡ min n 128 → length jobs ≡ 128 → i ≡ m →
-    sum_over (kept_charge aware ask) (take i jobs) ≡ used_at_least aware n jobs ask
-unfolding used_at_least
-used_end aware jobs ask n m i e l h = rw (h, e, take_least n 128 jobs (omega arith))
+pub used_turn : (aware : Bool) (jobs : List Job) (ask : Ask) (i sum r : ℕ) (d : Job) → i < length jobs →
+    sum ≡ sum_over (kept_charge aware ask) (take i jobs) → r ≡ kept_charge aware ask (get_or jobs i d) → sum + r ≡ sum_over (kept_charge aware ask) (take (i + 1) jobs)
+used_turn aware jobs ask i sum r d h e g = omega (arith, e, g, sum_next (kept_charge aware ask) jobs i d h)

@@ -1,5 +1,5 @@
 -- A job that is seen to stay does stay: a visit of it changes nothing.
-use Rattle.std.specs.Prelude.{◌≡◌, eqb, take, Float}
+use Rattle.std.specs.Prelude.{◌≡◌, is_none, eqb, take, Float}
 use Rattle.std.proofs.Math.Path.{refl}
 use Rattle.std.proofs.Common.{sym, ap, ◌∙◌, arith}
 use Rattle.std.proofs.Math.Logic.{⊎_elim}
@@ -19,7 +19,7 @@ use Rattle.model.specs.declared.gpu.Gpu.{Gpu}
 use Rattle.model.specs.declared.job.Ask.{Ask}
 use Rattle.model.specs.declared.job.Job.{Job}
 use Rattle.model.specs.declared.setting.Setting.{Setting}
-use Rattle.resource.specs.Cause.{resource_cause, is_none, placeable}
+use Rattle.resource.specs.Cause.{resource_cause, placeable}
 use Rattle.resource.specs.AllocateLaws.{placed_placeable, placeable_resources}
 use Rattle.preemptive.specs.Candidate.{candidate_at, candidates_by_number, lower, candidates}
 use Rattle.preemptive.specs.Prefix.{freed_all, evicted_all, opens, shortest, made, preempted}

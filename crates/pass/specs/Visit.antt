@@ -22,8 +22,6 @@ use Rattle.starts.specs.Begin.{no_placing}
 use Rattle.line.specs.Line.{joined_all}
 use Rattle.line.specs.Keep.{waits}
 use Rattle.line.specs.declared.join.Line.{Line}
-use Rattle.rows.specs.Gpu.{gpus_of}
-use Rattle.rows.specs.Job.{jobs_of}
 use Rattle.pass.specs.declared.visit.Pass.{Pass}
 use Rattle.pass.specs.declared.visit.Turn.{Turn}
 
@@ -36,8 +34,8 @@ unfoldable pub new_turn : Line → Turn
 new_turn line = record { line = line; placed = replicate Sizes.jobs no_placing; count = 0 }
 
 -- the pass, with the tables of GPUs and jobs that were lent
-abbrev pub whole_pass : Turn → List (List ℕ) → List (List ℕ) → Pass
-whole_pass t gpus jobs = record { gpus = gpus_of gpus; jobs = jobs_of jobs; line = t.line; placed = t.placed; count = t.count }
+abbrev pub whole_pass : Turn → List Gpu → List Job → Pass
+whole_pass t gpus jobs = record { gpus = gpus; jobs = jobs; line = t.line; placed = t.placed; count = t.count }
 
 -- the pass with other tables
 abbrev pub with_tables : Pass → List Gpu → List Job → Pass

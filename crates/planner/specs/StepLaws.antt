@@ -1,5 +1,5 @@
 -- What a step promises, for a reader: refused it leaves all as it was, accepted it has its event and good numbers, and 10, 11, 12 come in this order.
-use Rattle.std.specs.Prelude.{◌≡◌, refl, true, false, List, ℕ, ◌+◌, ◌-◌, ◌*◌, ◌<◌, ◌≤◌, ltb, length, take, drop}
+use Rattle.std.specs.Prelude.{◌≡◌, refl, true, false, List, ℕ, Ok, Err, ◌+◌, ◌-◌, ◌*◌, ◌<◌, ◌≤◌, ltb, length, take, drop}
 use Rattle.std.proofs.Common.{◌∙◌, arith, length-take, drop-drop, ltb-true, ltb-false}
 use Rattle.std.proofs.Math.Seq.{take-append_seam, drop-append-add}
 use Rattle.laws.specs.Tests.{split, never_both}
@@ -9,7 +9,7 @@ use Rattle.decision_log.specs.Words.{over}
 use Rattle.decision_log.specs.WordsLaws.{words_length}
 use Rattle.engine.specs.Advance.{has_event, advanced}
 use Rattle.planner.specs.Step.{words_needed, number_of, stepped, words_after, Done, done_short, done_none, done_barred, done_taken}
-use Rattle.planner.specs.declared.Taken.TheVariants.{Decisions, ShortBuffer, NoEvent, NotPermitted}
+use Rattle.planner.specs.declared.StepRefusal.TheVariants.{ShortBuffer, NoEvent, NotPermitted}
 use Rattle.planner.specs.declared.Stepped.{Stepped}
 
 -- what is behind the words in front is as it was
@@ -37,11 +37,11 @@ module _ (p : Plan) (buffer : List ℕ) where
 
   pub step_cases :
       (P : Stepped → List ℕ → Type 0) →
-      (length buffer < words_needed → P (record { answer = ShortBuffer; plan = p }) buffer) →
-      (words_needed ≤ length buffer → has_event p ≡ false → P (record { answer = NoEvent; plan = p }) buffer) →
-      (words_needed ≤ length buffer → has_event p ≡ true → (advanced p).ok ≡ false → P (record { answer = NotPermitted; plan = p }) buffer) →
+      (length buffer < words_needed → P (record { answer = Err ShortBuffer; plan = p }) buffer) →
+      (words_needed ≤ length buffer → has_event p ≡ false → P (record { answer = Err NoEvent; plan = p }) buffer) →
+      (words_needed ≤ length buffer → has_event p ≡ true → (advanced p).ok ≡ false → P (record { answer = Err NotPermitted; plan = p }) buffer) →
       (words_needed ≤ length buffer → has_event p ≡ true → (advanced p).ok ≡ true →
-      P (record { answer = Decisions (advanced p).log.count; plan = (advanced p).plan }) (over told buffer)) →
+      P (record { answer = Ok (advanced p).log.count; plan = (advanced p).plan }) (over told buffer)) →
       P (stepped p (length buffer)) (words_after p buffer)
   step_cases P short none barred taken =
       split
@@ -81,10 +81,10 @@ module _ (p : Plan) (buffer : List ℕ) where
       (λ h n o k. (h, n, o))
 
   -- the plan is the one after the step, and the answer the number of decisions
-  pub accepted_plan : number ≡ 0 → stepped p (length buffer) ≡ record { answer = Decisions (advanced p).log.count; plan = (advanced p).plan }
+  pub accepted_plan : number ≡ 0 → stepped p (length buffer) ≡ record { answer = Ok (advanced p).log.count; plan = (advanced p).plan }
   accepted_plan =
       step_cases
-      (λ r out. number_of r.answer ≡ 0 → r ≡ record { answer = Decisions (advanced p).log.count; plan = (advanced p).plan })
+      (λ r out. number_of r.answer ≡ 0 → r ≡ record { answer = Ok (advanced p).log.count; plan = (advanced p).plan })
       (λ h k. absurd (omega (arith, k)))
       (λ h n k. absurd (omega (arith, k)))
       (λ h n o k. absurd (omega (arith, k)))

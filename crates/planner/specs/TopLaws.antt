@@ -129,6 +129,6 @@ left_grown p size top free =
     pick_either P (ltb size words_needed) p (pick (has_event p) (advanced p).plan p) same
     (pick_either P (has_event p) (advanced p).plan p (advanced_grown top p free) same)
 
--- The first free entry from the top on is a top of the plan that a step leaves in the tables.
+-- The first free entry from the top on is a top of the plan that a step leaves.
 pub left_top : (p : Plan) (size top : ℕ) → free_from top p.events → free_from (top_after (left_in p size).events top) (left_in p size).events
 left_top p size top free = top_free top (left_in p size).events (left_grown p size top free)

@@ -8,42 +8,33 @@ ghost use Rattle.std.specs.Prelude.{◌≡◌, length};
 ghost use Rattle.loader.specs.Load as Load;
 ghost use Rattle.planner.specs.Question.{question};
 ghost use Rattle.planner.specs.Step.{stepped, words_after};
-ghost use Rattle.planner.specs.Lent.{is_taken};
 
-use lent::{plan_of, rest_of, step_lent};
+use lent::step_lent;
 use loader::load::Loaded;
-use model::job::job_at;
 use model::plan::Plan;
-use model::sizes::{EVENTS, GPUS, JOBS};
+use model::sizes::EVENTS;
 use resource::cause::is_placeable;
-use rows::event::{ENTRY, write_events};
-use rows::gpu::{CARD, write_gpus};
-use rows::job::{ROW, write_jobs};
+use tables::read;
 
 // Words that the decisions of one step may take.
 pub const WORDS: usize = 516;
 
-// The answer to the question whether a job is placeable now.
-#[derive(Clone, Copy)]
-pub enum Placeable {
-    Yes,
-    No,
-    NoSuchJob,
-}
+// Why it was not said whether a job is placeable.
+#[derive(Clone, Copy, PartialEq, Eq)]
+pub struct NoSuchJob;
 
-// The answer to a step: how many decisions it made, or why it was refused.
-#[derive(Clone, Copy)]
-pub enum Taken {
-    Decisions(usize),
+// Why a step was refused.
+#[derive(Clone, Copy, PartialEq, Eq)]
+pub enum StepRefusal {
     ShortBuffer,
     NoEvent,
     NotPermitted,
 }
 
-// The answer, and the plan after the step or, refused, as it was.
+// How many decisions the step made, and the plan after it or, refused, as it was.
 #[derive(Clone, Copy)]
 pub struct Stepped {
-    pub answer: Taken,
+    pub answer: Result<usize, StepRefusal>,
     pub plan: Plan,
 }
 
@@ -55,34 +46,15 @@ pub fn load(trace: &[u8]) -> Loaded
 }
 
 // Whether a job is placeable in the plan as it is.
-pub fn can_place(plan: Plan, job: usize) -> Placeable
+#[tactic(auto, unfolding(crate::specs::Question::question))]
+pub fn can_place(plan: Plan, job: usize) -> Result<bool, NoSuchJob>
     ensures { result ≡ question plan job }
 {
-    let setting = plan.setting;
-    let gpus = plan.gpus;
-    let jobs = plan.jobs;
-    if job < setting.jobs as usize {
-        let mut rows = [[0u64; ROW]; JOBS];
-        write_jobs(&mut rows, jobs);
-        let mut cards = [[0u64; CARD]; GPUS];
-        write_gpus(&mut cards, gpus);
-        if is_placeable(setting, &cards, &rows, job_at(jobs, job)) {
-            return Placeable::Yes;
-        }
-        return Placeable::No;
+    if job >= usize::from(plan.setting.jobs) {
+        return Err(NoSuchJob);
     }
-    Placeable::NoSuchJob
-}
-
-fn is_taken(answer: Taken) -> bool
-    ensures { result ≡ is_taken answer }
-{
-    match answer {
-        Taken::Decisions(_) => true,
-        Taken::ShortBuffer => false,
-        Taken::NoEvent => false,
-        Taken::NotPermitted => false,
-    }
+    let asked = read(&plan.jobs, job);
+    Ok(is_placeable(plan.setting, &plan.gpus, &plan.jobs, asked))
 }
 
 // Takes one step: its decisions are the first words of the buffer, four each. Refused, it leaves plan and buffer as they were.
@@ -90,32 +62,9 @@ pub fn step(plan: Plan, decisions: &mut [u64]) -> Stepped
     ensures value { result ≡ stepped plan (length decisions.old) }
     ensures decisions_after { decisions.new ≡ words_after plan decisions.old }
 {
-    let mut gpus = [[0u64; CARD]; GPUS];
-    let mut jobs = [[0u64; ROW]; JOBS];
-    let mut room = [[0u64; ENTRY]; EVENTS];
-    let table = plan.jobs;
-    let events = plan.events;
-    let cards = plan.gpus;
-    write_gpus(&mut gpus, cards);
-    write_jobs(&mut jobs, table);
-    write_events(&mut room, events);
-    let stepped = step_lent(
-        &mut gpus,
-        &mut jobs,
-        &mut room,
-        rest_of(plan),
-        EVENTS,
-        decisions,
-    );
-    let answer = stepped.answer;
-    if is_taken(answer) {
-        return Stepped {
-            answer: answer,
-            plan: plan_of(&gpus, &jobs, &room, stepped.rest),
-        };
-    }
-    Stepped {
-        answer: answer,
-        plan: plan,
-    }
+    let mut after = plan;
+    let answer = step_lent(&mut after, EVENTS, decisions);
+    // one that is not permitted has changed the plan that was lent
+    let plan = if answer.is_ok() { after } else { plan };
+    Stepped { answer, plan }
 }

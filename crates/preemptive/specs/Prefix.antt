@@ -13,8 +13,6 @@ use Rattle.mig.specs.Owner.{freed}
 use Rattle.life.specs.Life.{evicted}
 use Rattle.resource.specs.Cause.{placeable}
 use Rattle.preemptive.specs.Candidate.{candidates}
-use Rattle.rows.specs.Gpu.{gpus_of}
-use Rattle.rows.specs.Job.{jobs_of}
 use Rattle.preemptive.specs.declared.prefix.Preempted.{Preempted}
 use Rattle.preemptive.specs.declared.prefix.Way.{Way}
 
@@ -45,8 +43,8 @@ made s clock gpus jobs j ids cs =
     record { gpus = freed_all gpus (take k cs); jobs = evicted_all clock jobs (take k cs); victims = ids; count = k }
 
 -- the same, with the tables of GPUs and jobs that were lent
-abbrev pub whole_preempted : Way → List (List ℕ) → List (List ℕ) → Preempted
-whole_preempted w gpus jobs = record { gpus = gpus_of gpus; jobs = jobs_of jobs; victims = w.victims; count = w.count }
+abbrev pub whole_preempted : Way → List Gpu → List Job → Preempted
+whole_preempted w gpus jobs = record { gpus = gpus; jobs = jobs; victims = w.victims; count = w.count }
 
 -- What preemption for the job does.
 unfoldable pub preempted : Setting → Float → List Gpu → List Job → Job → Preempted

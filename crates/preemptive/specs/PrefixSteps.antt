@@ -56,13 +56,14 @@ module _ (s : Setting) (clock : Float) (gpus : List Gpu) (jobs : List Job) (j : 
       a ∙ rw (take_next cs k 0 h, freed_append gpus (take k cs) (get_or cs k 0 ∷ []), e, f)
 
   evicted_next : (k v : ℕ) (left after : List Job) → k < length cs → v ≡ get_or cs k 0 → left ≡ evicted_all clock jobs (take k cs) →
-      after ≡ evicted_all clock left (v ∷ []) → after ≡ evicted_all clock jobs (take (k + 1) cs)
+      after ≡ set left v (evicted (get_or left v no_job) clock) → after ≡ evicted_all clock jobs (take (k + 1) cs)
+  unfolding evicted_all
   evicted_next k v left after h e f a =
       a ∙ rw (take_next cs k 0 h, evicted_append clock jobs (take k cs) (get_or cs k 0 ∷ []), e, f)
 
   module _ (k v : ℕ) (free : List Gpu) (left : List Job) (free_after : List Gpu) (left_after : List Job) (within : k < length cs)
       (it : v ≡ get_or cs k 0) (so : Tried s clock gpus jobs j cs k free left) (away : free_after ≡ map (freed (plus_one v)) free)
-      (gone : left_after ≡ evicted_all clock left (v ∷ [])) where
+      (gone : left_after ≡ set left v (evicted (get_or left v no_job) clock)) where
     -- the code's test is the definition's
     opens_is : (r : Bool) → r ≡ placeable s free_after left_after j → opens s clock gpus jobs j cs (k + 1) ≡ r
     opens_is r e =

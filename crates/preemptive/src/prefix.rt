@@ -1,21 +1,20 @@
 // The shortest nonempty prefix of the candidates whose leaving makes a job placeable.
 
-ghost use Rattle.std.specs.Prelude.{◌≡◌, ◌∷◌, [], take};
-ghost use Rattle.rows.specs.Gpu.{gpus_of};
-ghost use Rattle.rows.specs.Job.{jobs_of};
-ghost use Rattle.preemptive.specs.Prefix.{evicted_all, whole_preempted, made, preempted};
+ghost use Rattle.std.specs.Prelude.{◌≡◌};
+ghost use Rattle.eligible.specs.Chosen.{list_of};
+ghost use Rattle.preemptive.specs.Prefix.{whole_preempted, made, preempted};
 
 use crate::candidate::candidates;
 use cluster::gpus::free_all;
+use eligible::chosen::Chosen;
 use life::evict;
 use model::gpu::Gpu;
 use model::job::Job;
 use model::setting::Setting;
 use model::sizes::{GPUS, JOBS};
 use resource::cause::is_placeable;
-use rows::gpu::CARD;
-use rows::job::{ROW, read_job, write_job};
-use small::{lesser, plus_one, wide_id};
+use small::plus_one;
+use tables::{read, write};
 
 // The victims are the first count of those numbered; count is 0 where no prefix helps, and then the tables are as they were.
 #[derive(Clone, Copy)]
@@ -33,47 +32,36 @@ pub struct Way {
     pub count: usize,
 }
 
-fn evict_one(jobs: &mut [[u64; ROW]; JOBS], v: u16, clock: f64)
-    ensures { jobs_of jobs.new ≡ evicted_all clock (jobs_of jobs.old) (v ∷ []) }
-{
-    let i = wide_id(v);
-    let j = read_job(jobs, i);
-    write_job(jobs, i, evict(j, clock));
-}
-
 // One candidate after the other leaves, on copies of the tables, until the job is placeable.
 fn make_room(
     setting: Setting,
     clock: f64,
-    gpus: &mut [[u64; CARD]; GPUS],
-    jobs: &mut [[u64; ROW]; JOBS],
+    gpus: &mut [Gpu; GPUS],
+    jobs: &mut [Job; JOBS],
     j: Job,
-    ids: [u16; JOBS],
-    count: usize,
+    found: Chosen,
 ) -> Way
     ensures { whole_preempted result gpus.new jobs.new
-        ≡ made setting clock (gpus_of gpus.old) (jobs_of jobs.old) j ids (take count ids) }
+        ≡ made setting clock gpus.old jobs.old j found.ids (list_of found) }
 {
-    let n = lesser(count, JOBS);
     let mut free = *gpus;
     let mut left = *jobs;
-    let mut k: usize = 0;
-    while k < n {
-        let v = ids[k];
-        free_all(&mut free, plus_one(v));
-        evict_one(&mut left, v, clock);
-        k = k + 1;
+    for (k, v) in found.ids[..found.count.min(JOBS)].iter().enumerate() {
+        let i = usize::from(*v);
+        free_all(&mut free, plus_one(*v));
+        let victim = evict(read(&left, i), clock);
+        write(&mut left, i, victim);
         if is_placeable(setting, &free, &left, j) {
             *gpus = free;
             *jobs = left;
             return Way {
-                victims: ids,
-                count: k,
+                victims: found.ids,
+                count: k + 1,
             };
         }
     }
     Way {
-        victims: ids,
+        victims: found.ids,
         count: 0,
     }
 }
@@ -81,15 +69,19 @@ fn make_room(
 pub fn preempt(
     setting: Setting,
     clock: f64,
-    gpus: &mut [[u64; CARD]; GPUS],
-    jobs: &mut [[u64; ROW]; JOBS],
+    gpus: &mut [Gpu; GPUS],
+    jobs: &mut [Job; JOBS],
     j: Job,
 ) -> Way
     ensures { whole_preempted result gpus.new jobs.new
-        ≡ preempted setting clock (gpus_of gpus.old) (jobs_of jobs.old) j }
+        ≡ preempted setting clock gpus.old jobs.old j }
 {
-    let ask = j.ask;
-    let found = candidates(setting, jobs, ask);
-    let ids = found.ids;
-    make_room(setting, clock, gpus, jobs, j, ids, found.count)
+    make_room(
+        setting,
+        clock,
+        gpus,
+        jobs,
+        j,
+        candidates(setting, jobs, j.ask),
+    )
 }

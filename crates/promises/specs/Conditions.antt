@@ -5,7 +5,7 @@ use Rattle.laws.specs.Lists.{All, all_middle}
 use Rattle.model.specs.declared.plan.Plan.{Plan}
 use Rattle.decision_log.specs.Log.{decisions}
 use Rattle.decision_log.specs.declared.Decision.{Decision}
-use Rattle.trace.specs.declared.answer.Answer.TheVariants.{Accepted}
+use Rattle.trace.specs.Answer.{Accepted}
 use Rattle.loader.specs.Load.{load}
 use Rattle.resource.specs.Quota.{kept_quota}
 use Rattle.engine.specs.Advance.{advanced}

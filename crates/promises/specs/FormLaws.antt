@@ -1,14 +1,12 @@
 -- One byte string a number: the shortest form of a number, that it reads as that number, and that whatever reads as that number is it.
-use Rattle.std.specs.Prelude.{◌≡◌, refl, Bool, true, false, List, [], ◌∷◌, ◌++◌, ℕ, zero, suc, ◌+◌, ◌-◌, ◌*◌, ◌/◌, ◌%◌, ◌^◌, ◌≤◌, ◌<◌, ltb, eqb, length, take}
+use Rattle.std.specs.Prelude.{◌≡◌, refl, Bool, true, false, List, [], ◌∷◌, ◌++◌, ℕ, zero, suc, ◌+◌, ◌-◌, ◌*◌, ◌/◌, ◌%◌, ◌^◌, ◌≤◌, ◌<◌, ltb, eqb, length, take, Ok, Err}
 use Rattle.std.proofs.Common.{sym, ap, ◌∙◌, pow-suc, add-one, arith, length-take-le, lt-ltb, le-ltb, ltb-true, ltb-false, eqb-true}
 use Rattle.std.proofs.Math.Nat.{one-le-pow}
 use Rattle.laws.specs.Choice.{pick}
 use Rattle.laws.specs.Lists.{All}
 use Rattle.laws.specs.Tests.{split}
-use Rattle.trace.specs.Number.{above, tenth, groups, number}
+use Rattle.trace.specs.Number.{Number, Value, Padded, Oversized, above, tenth, groups, number, taken}
 use Rattle.trace.specs.NumberLaws.{number_within}
-use Rattle.trace.specs.declared.number.Number.{Number}
-use Rattle.trace.specs.declared.number.Number.TheVariants.{Value, Ends, Padded, Oversized}
 
 -- each is a byte
 abbrev pub Bytes : List ℕ → Type 0
@@ -61,6 +59,14 @@ form_reads n rest h = form_groups 9 0 n rest (omega arith) (omega arith) (omega 
 
 -- ---- what reads as a number is its form
 
+value_in : Number → ℕ
+value_in (Ok p) = p.0
+value_in (Err e) = 0
+
+parts : (v j n k : ℕ) → Value v j ≡ Value n k → (n ≡ v) × (k ≡ j)
+unfolding value_in
+parts v j n k e = (sym (ap value_in e), sym (ap (λ (r : Number). taken r) e))
+
 -- m groups and a tenth byte at most, the last group least or more, read as a number and the bytes that it takes
 data Reads : ℕ → ℕ → List ℕ → ℕ → ℕ → Type 0 where
   ten : {least : ℕ} {s : List ℕ} → Reads zero least (1 ∷ s) 1 1
@@ -77,28 +83,23 @@ tenth_reads least n k (b ∷ s) e = by_test (eqb b 0) (eqb b 1) refl e
     by_test false false f g = let z : ◌≡◌ {A = ℕ} 0 1 = cc in absurd (omega arith)
     by_test false true f g =
         let u : b ≡ 1 = eqb-true b 1 f in
-        let v : n ≡ 1 = cc in
-        let w : k ≡ 1 = cc in
-        rw (u, v, w) ten
+        let v = parts 1 1 n k g in
+        rw (u, v.0, v.1) ten
 
 above_reads : (m least b n k : ℕ) (s : List ℕ) (r : Number) → groups m 1 s ≡ r → ((v j : ℕ) → groups m 1 s ≡ Value v j → Reads m 1 s v j) → 128 ≤ b →
     above (b - 128) r ≡ Value n k → Reads (suc m) least (b ∷ s) n k
-above_reads m least b n k s (Value v j) f g h e =
-    let p : n ≡ b - 128 + 128 * v = cc in
-    let q : k ≡ j + 1 = cc in
-    rw (p, q) (more h (g v j f))
-above_reads m least b n k s Ends f g h e = let z : ◌≡◌ {A = ℕ} 0 1 = cc in absurd (omega arith)
-above_reads m least b n k s Padded f g h e = let z : ◌≡◌ {A = ℕ} 0 1 = cc in absurd (omega arith)
-above_reads m least b n k s Oversized f g h e = let z : ◌≡◌ {A = ℕ} 0 1 = cc in absurd (omega arith)
+above_reads m least b n k s (Ok w) f g h e =
+    let p = parts (b - 128 + 128 * w.0) (w.1 + 1) n k e in
+    rw (p.0, p.1) (more h (g w.0 w.1 f))
+above_reads m least b n k s (Err x) f g h e = let z : ◌≡◌ {A = ℕ} 0 1 = cc in absurd (omega arith)
 
 group_reads : (m least b n k : ℕ) (s : List ℕ) (x y : Bool) → ltb b least ≡ x → ltb b 128 ≡ y →
     ((v j : ℕ) → groups m 1 s ≡ Value v j → Reads m 1 s v j) → pick x Padded (pick y (Value b 1) (above (b - 128) (groups m 1 s))) ≡ Value n k →
     Reads (suc m) least (b ∷ s) n k
 group_reads m least b n k s true y f g i e = let z : ◌≡◌ {A = ℕ} 0 1 = cc in absurd (omega arith)
 group_reads m least b n k s false true f g i e =
-    let p : n ≡ b = cc in
-    let q : k ≡ 1 = cc in
-    rw (p, q) (last (ltb-false b least f) (ltb-true b 128 g))
+    let p = parts b 1 n k e in
+    rw (p.0, p.1) (last (ltb-false b least f) (ltb-true b 128 g))
 group_reads m least b n k s false false f g i e = above_reads m least b n k s (groups m 1 s) refl i (ltb-false b 128 g) e
 
 groups_reads : (m least n k : ℕ) (s : List ℕ) → groups m least s ≡ Value n k → Reads m least s n k

@@ -1,17 +1,15 @@
 -- An accepted field: the number that stands there, in its range, and the bytes that the numbers so far take.
-use Rattle.std.specs.Prelude.{◌≡◌, refl, Bool, true, false, List, [], ◌∷◌, ◌++◌, ℕ, ◌+◌, ◌≤◌, ◌<◌, ltb, length, take, drop}
+use Rattle.std.specs.Prelude.{◌≡◌, refl, Bool, true, false, List, [], ◌∷◌, ◌++◌, ℕ, ◌+◌, ◌≤◌, ◌<◌, ltb, length, take, drop, Result, Ok, Err, IfOk}
 use Rattle.std.proofs.Common.{sym, ◌∙◌, append_assoc, append-nil, arith, take-add, ltb-false}
 use Rattle.laws.specs.Choice.{pick}
 use Rattle.laws.specs.Lists.{all_drop}
-use Rattle.trace.specs.Answer.{accepted}
-use Rattle.trace.specs.AnswerLaws.{accepted_is}
-use Rattle.trace.specs.Number.{number}
+use Rattle.trace.specs.Answer.{OutOfRange, ◌>>=◌}
+use Rattle.trace.specs.Number.{Number, Value, number}
 use Rattle.promises.specs.FormLaws.{Bytes, form, reads_form, number_some}
-use Rattle.trace.specs.Field.{field, next, got, lost, ranged}
-use Rattle.trace.specs.declared.answer.Answer.TheVariants.{Accepted, OutOfRange}
-use Rattle.trace.specs.declared.number.Number.{Number}
-use Rattle.trace.specs.declared.number.Number.TheVariants.{Value, Ends, Padded, Oversized}
-use Rattle.trace.specs.declared.field.Field.{Field}
+use Rattle.trace.specs.Field.{Field, field, got, ranged}
+use Rattle.trace.specs.declared.answer.Refusal.{Refusal}
+use Rattle.trace.specs.declared.number.NumberFault.TheVariants as N
+use Rattle.trace.specs.declared.record.Read.{Read}
 
 -- a field that is accepted at a place: the number read there, at least least and at most most, and where it ends
 pub record Found (s : List ℕ) (at least most : ℕ) (f : Field) : Type 0 where
@@ -21,35 +19,31 @@ pub record Found (s : List ℕ) (at least most : ℕ) (f : Field) : Type 0 where
   pub high : f.value ≤ most
   pub ends : f.end ≡ at + size
 
-ranged_found : (s : List ℕ) (at least most : ℕ) (r : Number) → number (drop at s) ≡ r → (ranged (length s) at least most r).answer ≡ Accepted →
-    Found s at least most (ranged (length s) at least most r)
-ranged_found s at least most (Value v n) e h = by_test (ltb v least) (ltb most v) refl refl h
+ranged_found : (s : List ℕ) (at least most : ℕ) (r : Number) → number (drop at s) ≡ r → IfOk (ranged (length s) at least most r) (Found s at least most)
+ranged_found s at least most (Ok p) e = by_test (ltb p.0 least) (ltb most p.0) refl refl
   where
-    by_test : (x y : Bool) → ltb v least ≡ x → ltb most v ≡ y →
-        (pick x (lost (OutOfRange at)) (pick y (lost (OutOfRange at)) (got v (at + n)))).answer ≡ Accepted →
-        Found s at least most (pick x (lost (OutOfRange at)) (pick y (lost (OutOfRange at)) (got v (at + n))))
-    by_test true y f g k = let z : ◌≡◌ {A = ℕ} 0 1 = cc in absurd (omega arith)
-    by_test false true f g k = let z : ◌≡◌ {A = ℕ} 0 1 = cc in absurd (omega arith)
-    by_test false false f g k = record { size = n; reads = e; low = ltb-false v least f; high = ltb-false most v g; ends = refl }
-ranged_found s at least most Ends e h = let z : ◌≡◌ {A = ℕ} 0 1 = cc in absurd (omega arith)
-ranged_found s at least most Padded e h = let z : ◌≡◌ {A = ℕ} 0 1 = cc in absurd (omega arith)
-ranged_found s at least most Oversized e h = let z : ◌≡◌ {A = ℕ} 0 1 = cc in absurd (omega arith)
+    by_test : (x y : Bool) → ltb p.0 least ≡ x → ltb most p.0 ≡ y →
+        IfOk (pick x (OutOfRange at) (pick y (OutOfRange at) (Ok (got p.0 (at + p.1))))) (Found s at least most)
+    by_test true y f g = tt
+    by_test false true f g = tt
+    by_test false false f g = record { size = p.1; reads = e; low = ltb-false p.0 least f; high = ltb-false most p.0 g; ends = refl }
+ranged_found s at least most (Err N.Ends) e = tt
+ranged_found s at least most (Err N.Padded) e = tt
+ranged_found s at least most (Err N.Oversized) e = tt
 
 -- an accepted field is a number in its range
-pub field_found : (s : List ℕ) (at least most : ℕ) → (field s at least most).answer ≡ Accepted → Found s at least most (field s at least most)
+pub field_found : (s : List ℕ) (at least most : ℕ) → IfOk (field s at least most) (Found s at least most)
 unfolding field
-field_found s at least most h = ranged_found s at least most (number (drop at s)) refl h
+field_found s at least most = ranged_found s at least most (number (drop at s)) refl
 
--- where a field is accepted, the one before it is, and it stands behind that
-pub next_found : (s : List ℕ) (before : Field) (least most : ℕ) → (next s before least most).answer ≡ Accepted →
-    (before.answer ≡ Accepted) × Found s before.end least most (next s before least most)
-unfolding next
-next_found s before least most h = by_test (accepted before.answer) refl h
+-- and so is the field in front of what is accepted
+pub found_then : (s : List ℕ) (at least most : ℕ) (Q : Read → Type 0) (f : Field → Result Read Refusal) →
+    ((x : Field) → Found s at least most x → IfOk (f x) Q) → IfOk (field s at least most >>= f) Q
+found_then s at least most Q f k = by_field (field s at least most) (field_found s at least most)
   where
-    by_test : (b : Bool) → accepted before.answer ≡ b → (pick b (field s before.end least most) (lost before.answer)).answer ≡ Accepted →
-        (before.answer ≡ Accepted) × Found s before.end least most (pick b (field s before.end least most) (lost before.answer))
-    by_test true e k = (accepted_is before.answer e, field_found s before.end least most k)
-    by_test false e k = let a : accepted before.answer ≡ true = rw k in let z : true ≡ false = cc in let w : ◌≡◌ {A = ℕ} 0 1 = cc in absurd (omega arith)
+    by_field : (r : Result Field Refusal) → IfOk r (Found s at least most) → IfOk (r >>= f) Q
+    by_field (Ok x) h = k x h
+    by_field (Err e) h = tt
 
 -- the forms of numbers, one behind the other
 unfoldable pub forms : List ℕ → List ℕ

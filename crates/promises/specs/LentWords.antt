@@ -3,8 +3,7 @@ use Rattle.std.specs.Prelude.{◌≡◌, List, ℕ, ◌<◌, ◌≤◌, ◌^◌,
 use Rattle.std.proofs.Common.{ap, arith, ltb-true, ltb-false}
 use Rattle.laws.specs.Tests.{split}
 use Rattle.model.specs.Sizes as Sizes
-use Rattle.trace.specs.Answer.{number_of, place_of}
-use Rattle.trace.specs.declared.answer.Answer.TheVariants.{TooLong}
+use Rattle.trace.specs.Answer.{TooLong, number_of, place_of}
 use Rattle.loader.specs.Load.{load}
 use Rattle.decision_log.specs.declared.Decision.{Decision}
 use Rattle.model.specs.declared.plan.Plan.{Plan}

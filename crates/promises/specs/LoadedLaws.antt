@@ -17,7 +17,7 @@ use Rattle.model.specs.declared.job.Ask.{Ask}
 use Rattle.model.specs.declared.job.Job.{Job}
 use Rattle.model.specs.declared.job.JobState.TheVariants.{Pending}
 use Rattle.model.specs.declared.plan.Plan.{Plan}
-use Rattle.trace.specs.declared.answer.Answer.TheVariants.{Accepted}
+use Rattle.trace.specs.Answer.{Accepted}
 use Rattle.trace.specs.declared.record.Record.{Record}
 use Rattle.trace.specs.declared.record.Record.TheVariants as R
 use Rattle.loader.specs.Arrivals.{arrival_of, arrivals_from, arrivals}
@@ -26,7 +26,7 @@ use Rattle.loader.specs.Load.{plan_of, load}
 use Rattle.promises.specs.RunLaws.{records_of, load_accepts}
 use Rattle.promises.specs.ListedLaws.{site_in, gpu_in, sites_of, asks_of, gpus_after, gpus_of}
 use Rattle.promises.specs.NothingDroppedLaws.{Exactly, load_exactly}
-use Rattle.loader.specs.declared.tables.Tables.{Tables}
+use Rattle.loader.specs.declared.loading.Tables.{Tables}
 
 -- nobody's and uncut
 abbrev pub Idle : Gpu → Type 0

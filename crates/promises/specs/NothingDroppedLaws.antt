@@ -13,7 +13,7 @@ use Rattle.model.specs.Setting.{default_options}
 use Rattle.model.specs.declared.setting.Options.{Options}
 use Rattle.model.specs.declared.plan.Plan.{Plan}
 use Rattle.promises.specs.RecordFormLaws.{Ranged}
-use Rattle.trace.specs.declared.answer.Answer.TheVariants.{Accepted}
+use Rattle.trace.specs.Answer.{Accepted}
 use Rattle.trace.specs.declared.record.Record.{Record}
 use Rattle.trace.specs.declared.record.Record.TheVariants as R
 use Rattle.loader.specs.Fault.{once, fault_of}
@@ -22,7 +22,7 @@ use Rattle.loader.specs.Tables.{empty_tables, gpu_of, put_node, put_limit, put_p
 use Rattle.loader.specs.Load.{plan_of, is_end, load}
 use Rattle.promises.specs.RunLaws.{Reached, begin, onward, records_of, takes_ranged, load_accepts}
 use Rattle.promises.specs.ListedLaws.{gather, gather_snoc, gather_same, gather_member, Entry, site_in, ask_in, quota_in, most_in, options_in, gpu_in, sites_of, asks_of, quotas_of, mosts_of, options_of, gpus_after, gpus_of, gpus_snoc, key_of, Filled, lookup, lookup_absent, lookup_other, lookup_new, lookup_each, all_listed}
-use Rattle.loader.specs.declared.tables.Tables.{Tables}
+use Rattle.loader.specs.declared.loading.Tables.{Tables}
 
 -- ---- one table at a time
 

@@ -11,7 +11,7 @@ use Rattle.model.specs.declared.job.Job.{Job}
 use Rattle.model.specs.declared.job.JobState.TheVariants.{Waiting, Running}
 use Rattle.model.specs.declared.plan.Plan.{Plan}
 use Rattle.decision_log.specs.declared.Decision.{Decision}
-use Rattle.trace.specs.declared.answer.Answer.TheVariants.{Accepted}
+use Rattle.trace.specs.Answer.{Accepted}
 use Rattle.trace.specs.declared.record.Record.{Record}
 use Rattle.trace.specs.declared.record.Record.TheVariants as R
 use Rattle.loader.specs.Load.{load}

@@ -1,49 +1,33 @@
 -- Every refusal is true and first: where it stands, what stands before it, and that a refused load gives the empty plan.
-use Rattle.std.specs.Prelude.{◌≡◌, refl, Bool, true, false, not, ◌⊎◌, List, [], ◌∷◌, ℕ, ◌+◌, ◌≤◌, ◌<◌, ltb, eqb, length, take, drop, get_or}
-use Rattle.std.proofs.Common.{inl, inr, ⊎_elim, arith, lt-ltb, ltb-false, eqb-true}
+use Rattle.std.specs.Prelude.{◌≡◌, refl, Bool, true, false, not, ◌⊎◌, List, [], ◌∷◌, ℕ, ◌+◌, ◌≤◌, ◌<◌, ltb, eqb, length, take, drop, get_or, Ok, Err}
+use Rattle.std.proofs.Common.{inl, inr, arith, lt-ltb, ltb-false, eqb-true}
 use Rattle.std.proofs.lemmas.List.{length-map}
 use Rattle.std.proofs.lemmas.Bool.{eqb-false, not-true}
 use Rattle.laws.specs.Choice.{pick}
 use Rattle.laws.specs.Lists.{all_drop}
-use Rattle.laws.specs.Tests.{never_both}
 use Rattle.model.specs.Sizes as Sizes
 use Rattle.model.specs.Plan.{empty_plan}
 use Rattle.model.specs.Job.{new_job}
 use Rattle.model.specs.declared.job.Ask.{Ask}
 use Rattle.model.specs.declared.setting.Options.{Options}
-use Rattle.trace.specs.Answer.{accepted, number_of, place_of, shifted}
+use Rattle.trace.specs.Answer.{Answer, Accepted, AfterEnd, GpuBeforeNode, Repeated, TableFull, TooLong, accepted, number_of, place_of, shifted}
 use Rattle.promises.specs.FormLaws.{Bytes}
 use Rattle.trace.specs.Record.{record_read}
 use Rattle.promises.specs.RefusedLaws.{Refuses, refuses_number, record_told}
 use Rattle.trace.specs.declared.record.Card.{Card}
-use Rattle.trace.specs.declared.answer.Answer.{Answer}
-use Rattle.trace.specs.declared.answer.Answer.TheVariants.{Accepted, EndsEarly, AfterEnd, BadNumber, UnknownKind, OutOfRange, GpuBeforeNode, Repeated, TableFull, TooLong}
 use Rattle.trace.specs.declared.record.Record.{Record}
 use Rattle.trace.specs.declared.record.Record.TheVariants as R
 use Rattle.loader.specs.Fault.{room_for, once, on_node, fault_of}
-use Rattle.loader.specs.Load.{refused, load}
+use Rattle.loader.specs.Load.{refused, load_into, loaded, load}
 use Rattle.loader.specs.LoadLaws.{read_inside}
 use Rattle.promises.specs.RunLaws.{whole, Reached, Stopped, unread, faulty, after, Outcome, done, stopped, long, reached_inside, takes_inside, load_outcome}
 use Rattle.promises.specs.ListedLaws.{sites_of, gpus_of, asks_of, quotas_of, mosts_of, options_of, lookup}
 use Rattle.promises.specs.NothingDroppedLaws.{Holds, reached_holds}
 use Rattle.promises.specs.TraceFormLaws.{forms_of, reached_forms}
-use Rattle.loader.specs.declared.tables.Tables.{Tables}
+use Rattle.loader.specs.declared.loading.Tables.{Tables}
 use Rattle.loader.specs.declared.load.Loaded.{Loaded}
 
 -- ---- places
-
--- further on, the place of a refusal is further on
-shifted_place : (by : ℕ) (a : Answer) → accepted a ≡ false → place_of (shifted by a) ≡ by + place_of a
-shifted_place by Accepted h = let z : ◌≡◌ {A = ℕ} 0 1 = cc in absurd (omega arith)
-shifted_place by (EndsEarly at) h = refl
-shifted_place by (BadNumber at) h = refl
-shifted_place by (UnknownKind at) h = refl
-shifted_place by (OutOfRange at) h = refl
-shifted_place by (GpuBeforeNode at) h = refl
-shifted_place by (Repeated at) h = refl
-shifted_place by (TableFull at) h = refl
-shifted_place by (AfterEnd at) h = refl
-shifted_place by (TooLong at) h = refl
 
 -- a fault stands at its record's kind
 room_place : (count size at : ℕ) → accepted (room_for count size at) ≡ false → place_of (room_for count size at) ≡ at
@@ -76,10 +60,9 @@ fault_place t at (R.Options options) h = once_place t.told at h
 
 -- the place of a refusal lies behind the records before it, and inside the trace
 pub stopped_place : {trace : List ℕ} {at : ℕ} {t : Tables} {a : Answer} → at ≤ length trace → Stopped trace at t a → (at ≤ place_of a) × (place_of a ≤ length trace)
-stopped_place {trace} {at} h (unread e) =
-    let p : place_of (shifted at (record_read (drop at trace)).answer) ≡ at + place_of (record_read (drop at trace)).answer =
-    shifted_place at (record_read (drop at trace)).answer e in
-    (omega arith, omega (arith, (read_inside trace at h).0))
+stopped_place {trace} {at} h (unread e f) =
+    let i : at + e.at ≤ length trace = rw f at (read_inside trace at h) in
+    (omega arith, i)
 stopped_place {trace} {at} {t} h (faulty r k e g f) =
     let p : place_of (fault_of t.setting t.told at r) ≡ at = fault_place t at r f in
     (omega arith, omega arith)
@@ -155,11 +138,9 @@ pub data Because (trace : List ℕ) (rs : List Record) (at : ℕ) : Answer → T
 
 stopped_because : {trace : List ℕ} {rs : List Record} {at : ℕ} {t : Tables} {a : Answer} → Bytes trace → at ≤ length trace → Holds rs t →
     Stopped trace at t a → Because trace rs at a
-stopped_because {trace} {rs} {at} b i h (unread f) =
-    ⊎_elim
-    (λ (e : (record_read (drop at trace)).answer ≡ Accepted). absurd (never_both refl (rw e at f)))
-    (λ (r : Refuses (drop at trace) (record_read (drop at trace)).answer). by_number (record_read (drop at trace)).answer r)
-    (record_told (drop at trace) (all_drop (λ c. c < 256) at trace b))
+stopped_because {trace} {rs} {at} b i h (unread e f) =
+    let r : Refuses (drop at trace) (Err e) = rw f at (record_told (drop at trace) (all_drop (λ c. c < 256) at trace b)) in
+    by_number (Err e) r
 stopped_because {trace} {rs} {at} {t} b i h (faulty r k e g f) = by_fault r k (fault_of t.setting t.told at r) e (fault_true rs t at r h f)
 stopped_because {trace} {rs} {at} b i h (after k e g) = by_end k e (omega (arith, takes_inside trace at R.End k e i, g))
 
@@ -229,22 +210,14 @@ refusal_inside trace = by_outcome (load trace) (load_outcome trace)
 
 -- a trace over 65,536 bytes is refused as such, there, before all else
 pub long_refused : (trace : List ℕ) → Sizes.trace_bytes < length trace → (load trace).answer ≡ TooLong Sizes.trace_bytes
-unfolding load refused
+unfolding load load_into loaded refused
 long_refused trace h = rw (lt-ltb Sizes.trace_bytes (length trace) h)
 
 -- ---- numbers and places
 
 shifted_number : (by : ℕ) (a : Answer) → number_of (shifted by a) ≡ number_of a
-shifted_number by Accepted = refl
-shifted_number by (EndsEarly at) = refl
-shifted_number by (BadNumber at) = refl
-shifted_number by (UnknownKind at) = refl
-shifted_number by (OutOfRange at) = refl
-shifted_number by (GpuBeforeNode at) = refl
-shifted_number by (Repeated at) = refl
-shifted_number by (TableFull at) = refl
-shifted_number by (AfterEnd at) = refl
-shifted_number by (TooLong at) = refl
+shifted_number by (Ok u) = refl
+shifted_number by (Err e) = refl
 
 because_number : {trace : List ℕ} {rs : List Record} {at : ℕ} {a : Answer} → Because trace rs at a → number_of a ≤ 8
 because_number {trace} {rs} {at} (by_number a r) = omega (arith, shifted_number at a, (refuses_number r).1)
@@ -266,16 +239,8 @@ pub nine_place : (trace : List ℕ) → Bytes trace → number_of (load trace).a
 nine_place trace b n = by_refusal (load trace).answer n (load_refusal trace (not_accepted (load trace).answer n))
   where
     not_accepted : (a : Answer) → number_of a ≡ 9 → accepted a ≡ false
-    not_accepted Accepted h = absurd (omega arith)
-    not_accepted (EndsEarly at) h = refl
-    not_accepted (BadNumber at) h = refl
-    not_accepted (UnknownKind at) h = refl
-    not_accepted (OutOfRange at) h = refl
-    not_accepted (GpuBeforeNode at) h = refl
-    not_accepted (Repeated at) h = refl
-    not_accepted (TableFull at) h = refl
-    not_accepted (AfterEnd at) h = refl
-    not_accepted (TooLong at) h = refl
+    not_accepted (Ok u) h = absurd (omega arith)
+    not_accepted (Err e) h = refl
 
     by_refusal : (a : Answer) → number_of a ≡ 9 → Refusal trace a → (place_of a ≡ Sizes.trace_bytes) × (Sizes.trace_bytes < length trace)
     by_refusal a h (inl q) = (rw q.1, q.0)

@@ -9,9 +9,7 @@ use Rattle.decision_log.specs.Words.{over}
 use Rattle.decision_log.specs.WordsLaws.{words_length}
 use Rattle.decision_log.specs.declared.Decision.{Decision}
 use Rattle.trace.specs.Answer.{accepted, number_of, place_of}
-use Rattle.trace.specs.AnswerLaws.{accepted_is}
-use Rattle.trace.specs.declared.answer.Answer.{Answer}
-use Rattle.trace.specs.declared.answer.Answer.TheVariants.{Accepted, EndsEarly, BadNumber, UnknownKind, OutOfRange, GpuBeforeNode, Repeated, TableFull, AfterEnd, TooLong}
+use Rattle.trace.specs.AnswerLaws.{accepted_is, number_most}
 use Rattle.loader.specs.Load.{load}
 use Rattle.engine.specs.Advance.{has_event, advanced}
 use Rattle.planner.specs.Step.{words_needed}
@@ -125,19 +123,6 @@ module _ (trace ws : List ℕ) (enough : run_words ≤ length ws) where
   run_leaves (suc m) k p h r e = turn_leaves m k p h r (λ q g t. run_leaves m (k + 1) q g t (omega (arith, e)))
 
 -- ---- what stands in the words
-
--- a load's number is at most 9
-number_most : (a : Answer) → number_of a ≤ 9
-number_most Accepted = omega arith
-number_most (EndsEarly at) = omega arith
-number_most (BadNumber at) = omega arith
-number_most (UnknownKind at) = omega arith
-number_most (OutOfRange at) = omega arith
-number_most (GpuBeforeNode at) = omega arith
-number_most (Repeated at) = omega arith
-number_most (TableFull at) = omega arith
-number_most (AfterEnd at) = omega arith
-number_most (TooLong at) = omega arith
 
 -- no decision yet: the words as they were
 image_none : (ws : List ℕ) → image ws [] ≡ ws

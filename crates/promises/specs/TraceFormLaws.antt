@@ -6,13 +6,13 @@ use Rattle.laws.specs.Lists.{all_drop}
 use Rattle.promises.specs.FormLaws.{Bytes}
 use Rattle.trace.specs.Record.{record_read}
 use Rattle.promises.specs.RecordFormLaws.{record_form, record_form_lem, form_of_end}
-use Rattle.trace.specs.declared.answer.Answer.TheVariants.{Accepted}
+use Rattle.trace.specs.Answer.{Accepted}
 use Rattle.trace.specs.declared.record.Record.{Record}
 use Rattle.trace.specs.declared.record.Record.TheVariants as R
 use Rattle.loader.specs.Load.{load}
 use Rattle.promises.specs.ListedLaws.{gather, gather_snoc}
 use Rattle.promises.specs.RunLaws.{whole, Reached, begin, onward, records_of, Accepts, load_accepts}
-use Rattle.loader.specs.declared.tables.Tables.{Tables}
+use Rattle.loader.specs.declared.loading.Tables.{Tables}
 
 -- the records' forms, one behind the other
 abbrev pub forms_of : List Record → List ℕ
@@ -20,9 +20,7 @@ forms_of rs = gather record_form rs
 
 -- the bytes of a record that is read at a place are its form
 taken_form : (trace : List ℕ) (at : ℕ) (r : Record) (k : ℕ) → Bytes trace → record_read (drop at trace) ≡ whole r k → take k (drop at trace) ≡ record_form r
-taken_form trace at r k b e =
-    let a : (record_read (drop at trace)).answer ≡ Accepted = rw e in
-    rw e at (record_form_lem (drop at trace) (all_drop (λ c. c < 256) at trace b) a)
+taken_form trace at r k b e = rw e at (record_form_lem (drop at trace) (all_drop (λ c. c < 256) at trace b))
 
 -- the bytes up to a place that is reached are the forms of the records read
 pub reached_forms : {trace : List ℕ} {rs : List Record} {at : ℕ} {t : Tables} → Reached trace rs at t → Bytes trace → take at trace ≡ forms_of rs

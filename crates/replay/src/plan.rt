@@ -1,113 +1,92 @@
 // Cases of kind 2: a whole plan, by the lines that have to be printed.
 
-use crate::stored::{after, part};
 use model::plan::Plan;
-use planner::{Taken, WORDS};
+use planner::{StepRefusal, WORDS};
 use text::page::write_page;
 use text::put::{put_bytes, put_decimal};
-use text::same::is_same;
 use text::told::{Last, put_decisions, put_last};
-use trace::answer::{number_of, place_of};
 
-// How many bytes of the expected lines were met; wrong: what came next was not what they have there.
+// What came next was not what the expected lines have there; so many of their bytes were still to be met.
 #[derive(Clone, Copy)]
-pub struct Met {
-    pub bytes: usize,
-    pub wrong: bool,
+struct Wrong {
+    left: usize,
 }
 
-// The lines before a place against the expected ones, of which so many bytes were met.
-fn meet(expected: &[u8], bytes: usize, out: &[u8], to: usize) -> Met {
-    if bytes <= expected.len() {
-        let end = after(bytes, to, expected.len());
-        if is_same(part(expected, bytes, end), part(out, 0, to)) {
-            return Met {
-                bytes: end,
-                wrong: false,
-            };
-        }
-    }
-    Met {
-        bytes: bytes,
-        wrong: true,
-    }
+// The lines against the expected ones that are still to be met; answers what is left of those.
+fn meet<'a>(expected: &'a [u8], lines: &[u8]) -> Result<&'a [u8], Wrong> {
+    expected.strip_prefix(lines).ok_or(Wrong {
+        left: expected.len(),
+    })
 }
 
 // The last line has to be the last of the expected ones too.
-fn meet_last(expected: &[u8], bytes: usize, out: &mut [u8], number: u64, place: u64) -> Met {
-    let last = Last {
-        number: number,
-        place: place,
-    };
+fn meet_last(expected: &[u8], out: &mut [u8], last: Last) -> Result<(), Wrong> {
     let to = put_last(out, 0, last);
-    let met = meet(expected, bytes, out, to);
-    if met.bytes < expected.len() {
-        return Met {
-            bytes: met.bytes,
-            wrong: true,
-        };
+    let left = meet(expected, &out[..to])?.len();
+    if left > 0 {
+        return Err(Wrong { left });
     }
-    met
+    Ok(())
 }
 
-fn run(loaded: Plan, expected: &[u8], out: &mut [u8]) -> Met {
+fn run(loaded: Plan, expected: &[u8], out: &mut [u8]) -> Result<(), Wrong> {
     let mut words = [0u64; WORDS];
     let mut plan = loaded;
-    let mut bytes: usize = 0;
-    let mut steps: u64 = 0;
-    while steps < u64::MAX {
+    let mut left = expected;
+    for steps in 0..u64::MAX {
         let stepped = planner::step(plan, &mut words);
-        let answer = stepped.answer;
         plan = stepped.plan;
-        match answer {
-            Taken::Decisions(n) => {
+        match stepped.answer {
+            Ok(n) => {
                 let to = put_decisions(out, 0, &words, n);
-                let met = meet(expected, bytes, out, to);
-                if met.wrong {
-                    return met;
-                }
-                bytes = met.bytes;
+                left = meet(left, &out[..to])?;
             }
-            Taken::NoEvent => return meet_last(expected, bytes, out, 0, steps),
-            Taken::NotPermitted => return meet_last(expected, bytes, out, 12, 0),
-            Taken::ShortBuffer => return meet_last(expected, bytes, out, 10, 0),
+            Err(StepRefusal::NoEvent) => return meet_last(left, out, Last::End { steps }),
+            Err(StepRefusal::NotPermitted) => {
+                return meet_last(left, out, Last::StepRefused { number: 12 });
+            }
+            Err(StepRefusal::ShortBuffer) => {
+                return meet_last(left, out, Last::StepRefused { number: 10 });
+            }
         }
-        steps = steps + 1;
     }
-    meet_last(expected, bytes, out, 0, steps)
+    meet_last(left, out, Last::End { steps: u64::MAX })
 }
 
-fn planned(trace: &[u8], expected: &[u8], out: &mut [u8]) -> Met {
+fn planned(trace: &[u8], expected: &[u8], out: &mut [u8]) -> Result<(), Wrong> {
     let loaded = planner::load(trace);
-    let answer = loaded.answer;
-    let first = loaded.plan;
-    if number_of(answer) == 0 {
-        return run(first, expected, out);
+    match loaded.answer {
+        Ok(()) => run(loaded.plan, expected, out),
+        Err(refusal) => {
+            let number = refusal.fault as u64;
+            let place = refusal.at as u64;
+            meet_last(expected, out, Last::LoadRefused { number, place })
+        }
     }
-    meet_last(expected, 0, out, number_of(answer), place_of(answer) as u64)
 }
 
 fn report(rt: &impl Print, case: u64, bytes: usize) {
     let mut line = [0u8; 160];
-    let mut to = put_bytes(&mut line, 0, b"case ");
-    to = put_decimal(&mut line, to, case);
-    to = put_bytes(
+    let to = put_bytes(&mut line, 0, b"case ");
+    let to = put_decimal(&mut line, to, case);
+    let to = put_bytes(
         &mut line,
         to,
         b": the plan is not the expected one after its first ",
     );
-    to = put_decimal(&mut line, to, bytes as u64);
-    to = put_bytes(&mut line, to, b" bytes\n");
-    write_page(rt, &line, to);
+    let to = put_decimal(&mut line, to, bytes as u64);
+    let to = put_bytes(&mut line, to, b" bytes\n");
+    let _ = write_page(rt, &line, to);
 }
 
 // Whether the plan of a trace is printed as expected.
 pub fn is_right(rt: &impl Print, case: u64, trace: &[u8], expected: &[u8]) -> bool {
     let mut out = io::large_buffer();
-    let met = planned(trace, expected, &mut out);
-    if met.wrong {
-        report(rt, case, met.bytes);
-        return false;
+    match planned(trace, expected, &mut out) {
+        Ok(()) => true,
+        Err(wrong) => {
+            report(rt, case, expected.len().saturating_sub(wrong.left));
+            false
+        }
     }
-    true
 }

@@ -1,5 +1,5 @@
 -- Placeable and allocation agree, and what is not placeable changes nothing.
-use Rattle.std.specs.Prelude.{◌≡◌, refl, true, false, List, ℕ, eqb, ltb}
+use Rattle.std.specs.Prelude.{◌≡◌, refl, true, false, List, ℕ, eqb, ltb, is_none}
 use Rattle.std.proofs.Math.Path.{sym}
 use Rattle.std.proofs.Common.{◌∙◌}
 use Rattle.laws.specs.Tests.{split, never_both}
@@ -9,9 +9,10 @@ use Rattle.model.specs.declared.setting.Setting.{Setting}
 use Rattle.mig.specs.Allocate.{slices_placeable, slices_allocated}
 use Rattle.mig.specs.AllocateLaws.{placeable_placed}
 use Rattle.choice.specs.Choose.{why_not_here}
+use Rattle.choice.specs.ChooseLaws.{choose_enough}
 use Rattle.choice.specs.Why.{is_enough}
 use Rattle.resource.specs.Quota.{within_quota}
-use Rattle.resource.specs.Cause.{most_of, slices_cause, resource_cause, first_cause, is_none, placeable}
+use Rattle.resource.specs.Cause.{most_of, slices_cause, resource_cause, first_cause, placeable}
 use Rattle.resource.specs.Allocate.{whole_allocated, slices_got, allocated}
 use Rattle.resource.specs.AllocateCases.{none_enough}
 
@@ -26,14 +27,6 @@ no_cause gpus n profile most want h =
     (λ e. absurd (split (ltb most want) (λ t. never_both (rw (a, e, t) at h) refl) (λ t. never_both (rw (a, e, t) at h) refl))))
 
 module _ (s : Setting) (gpus : List Gpu) (jobs : List Job) (j : Job) where
-  -- a job is placed exactly if it is placeable
-  pub placed_placeable : (owner : ℕ) → (allocated s gpus jobs j owner).placed ≡ placeable s gpus jobs j
-  unfolding allocated whole_allocated slices_got
-  placed_placeable owner =
-      split (placeable s gpus jobs j)
-      (λ e. rw e (split (eqb j.ask.profile 0) (λ f. rw f) (λ f. rw f)))
-      (λ e. rw e)
-
   -- what is not placeable leaves the table as it was
   pub unplaced_same : (owner : ℕ) → placeable s gpus jobs j ≡ false → (allocated s gpus jobs j owner).gpus ≡ gpus
   unfolding allocated
@@ -53,6 +46,17 @@ module _ (s : Setting) (gpus : List Gpu) (jobs : List Job) (j : Job) where
   pub placeable_enough : eqb j.ask.profile 0 ≡ true → placeable s gpus jobs j ≡ true → is_enough (why_not_here gpus s.gpus s.sites j.ask) ≡ true
   unfolding resource_cause
   placeable_enough z h = sym (none_enough (why_not_here gpus s.gpus s.sites j.ask)) ∙ rw z at (placeable_resources h)
+
+  -- a job is placed exactly if it is placeable
+  pub placed_placeable : (owner : ℕ) → (allocated s gpus jobs j owner).placed ≡ placeable s gpus jobs j
+  unfolding allocated whole_allocated slices_got
+  placed_placeable owner =
+      split (placeable s gpus jobs j)
+      (λ e. rw e (split
+      (eqb j.ask.profile 0)
+      (λ f. rw f (choose_enough gpus s.gpus s.sites j.ask s.options.best ∙ placeable_enough f e))
+      (λ f. rw f)))
+      (λ e. rw e)
 
   -- a placeable MIG job gets its slices: there is no yes that fails
   pub placeable_slices : (owner : ℕ) → eqb j.ask.profile 0 ≡ false → placeable s gpus jobs j ≡ true →

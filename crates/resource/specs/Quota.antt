@@ -56,3 +56,6 @@ module _ (s : Setting) (jobs : List Job) (j : Job) where
           omega arith in rw (e, le-leb (used + charge) (kept - 1) q))
           (λ e. let p : kept - used ≤ charge = ltb-false charge (kept - used) e in let q : kept - 1 < used + charge =
           omega arith in rw (e, lt-leb (used + charge) (kept - 1) q))
+
+-- each return of `within_quota`
+pub ruleset quotas = (quota_no_tenant, quota_no_entry, quota_spent, quota_left)

@@ -1,23 +1,20 @@
 // The first cause why a job is not placeable; placeable is to have none.
 
 ghost use Rattle.std.specs.Prelude.{◌≡◌};
-ghost use Rattle.rows.specs.Gpu.{gpus_of};
-ghost use Rattle.rows.specs.Job.{jobs_of};
-ghost use Rattle.resource.specs.Cause.{whole_cause, slices_cause, resource_cause, first_cause, is_none, placeable};
+ghost use Rattle.resource.specs.Cause.{whole_cause, slices_cause, resource_cause, first_cause, placeable};
 
 use crate::quota::within_quota;
 use choice::choose::why_not_here;
 use choice::why::Why;
 use mig::allocate::slices_placeable;
+use model::gpu::Gpu;
 use model::job::Job;
-use model::setting::{Setting, most_at};
+use model::setting::Setting;
 use model::sizes::{GPUS, JOBS};
-use rows::gpu::CARD;
-use rows::job::ROW;
+use tables::read;
 
 #[derive(Clone, Copy)]
 pub enum Cause {
-    NoCause,
     OverQuota,
     NoCount,
     NotMultiple,
@@ -27,83 +24,66 @@ pub enum Cause {
     NoIdle,
 }
 
-fn whole_cause(why: Why) -> Cause
-    ensures { result ≡ whole_cause why }
-{
-    match why {
-        Why::Enough => Cause::NoCause,
-        Why::NoCount => Cause::NoCount,
-        Why::NotMultiple => Cause::NotMultiple,
-        Why::TooFew => Cause::TooFew,
+impl From<Why> for Cause {
+    ghost from_gives = { λ why c. c ≡ whole_cause why };
+
+    fn from(why: Why) -> Cause {
+        match why {
+            Why::NoCount => Cause::NoCount,
+            Why::NotMultiple => Cause::NotMultiple,
+            Why::TooFew => Cause::TooFew,
+        }
     }
 }
 
 // most is 0 where the profile is not loaded.
-fn slices_cause(gpus: &[[u64; CARD]; GPUS], n: usize, profile: u8, most: u8, want: u8) -> Cause
-    ensures { result ≡ slices_cause (gpus_of gpus.now) n profile most want }
+#[tactic(auto, unfolding(crate::specs::Cause::slices_cause))]
+fn slices_cause(gpus: &[Gpu; GPUS], n: usize, profile: u8, most: u8, want: u8) -> Option<Cause>
+    ensures { result ≡ slices_cause gpus.now n profile most want }
 {
     if most == 0 {
-        return Cause::NoProfile;
+        Some(Cause::NoProfile)
+    } else if slices_placeable(gpus, n, profile, most, want) {
+        None
+    } else if most < want {
+        Some(Cause::TooManySlices)
+    } else {
+        Some(Cause::NoIdle)
     }
-    if slices_placeable(gpus, n, profile, most, want) {
-        return Cause::NoCause;
-    }
-    if most < want {
-        return Cause::TooManySlices;
-    }
-    Cause::NoIdle
 }
 
-pub fn resource_cause(setting: Setting, gpus: &[[u64; CARD]; GPUS], j: Job) -> Cause
-    ensures { result ≡ resource_cause setting (gpus_of gpus.now) j }
+#[tactic(auto, unfolding(crate::specs::Cause::resource_cause))]
+pub fn resource_cause(setting: Setting, gpus: &[Gpu; GPUS], j: Job) -> Option<Cause>
+    ensures { result ≡ resource_cause setting gpus.now j }
 {
-    let ask = j.ask;
-    let n = setting.gpus as usize;
-    if ask.profile == 0 {
-        let sites = setting.sites;
-        return whole_cause(why_not_here(gpus, n, sites, ask));
+    let n = usize::from(setting.gpus);
+    if j.ask.profile == 0 {
+        why_not_here(gpus, n, setting.sites, j.ask).map(Cause::from)
+    } else {
+        let most = read(&setting.mosts, usize::from(j.ask.profile - 1));
+        slices_cause(gpus, n, j.ask.profile, most, j.ask.slices)
     }
-    let mosts = setting.mosts;
-    let most = most_at(mosts, (ask.profile - 1) as usize);
-    slices_cause(gpus, n, ask.profile, most, ask.slices)
 }
 
+#[tactic(auto, unfolding(crate::specs::Cause::first_cause))]
 pub fn first_cause(
     setting: Setting,
-    gpus: &[[u64; CARD]; GPUS],
-    jobs: &[[u64; ROW]; JOBS],
+    gpus: &[Gpu; GPUS],
+    jobs: &[Job; JOBS],
     j: Job,
-) -> Cause
-    ensures { result ≡ first_cause setting (gpus_of gpus.now) (jobs_of jobs.now) j }
+) -> Option<Cause>
+    ensures { result ≡ first_cause setting gpus.now jobs.now j }
 {
     if within_quota(setting, jobs, j) {
-        return resource_cause(setting, gpus, j);
-    }
-    Cause::OverQuota
-}
-
-pub fn is_none(c: Cause) -> bool
-    ensures { result ≡ is_none c }
-{
-    match c {
-        Cause::NoCause => true,
-        Cause::OverQuota => false,
-        Cause::NoCount => false,
-        Cause::NotMultiple => false,
-        Cause::TooFew => false,
-        Cause::NoProfile => false,
-        Cause::TooManySlices => false,
-        Cause::NoIdle => false,
+        resource_cause(setting, gpus, j)
+    } else {
+        Some(Cause::OverQuota)
     }
 }
 
-pub fn is_placeable(
-    setting: Setting,
-    gpus: &[[u64; CARD]; GPUS],
-    jobs: &[[u64; ROW]; JOBS],
-    j: Job,
-) -> bool
-    ensures { result ≡ placeable setting (gpus_of gpus.now) (jobs_of jobs.now) j }
+#[tactic(auto, unfolding(crate::specs::Cause::placeable))]
+pub fn is_placeable(setting: Setting, gpus: &[Gpu; GPUS], jobs: &[Job; JOBS], j: Job) -> bool
+    ensures { result ≡ placeable setting gpus.now jobs.now j }
 {
-    is_none(first_cause(setting, gpus, jobs, j))
+    first_cause(setting, gpus, jobs, j).is_none()
 }

@@ -7,8 +7,6 @@ use crate::add_event;
 use model::event::{Event, EventKind};
 use model::number::is_permitted;
 use model::sizes::EVENTS;
-use rows::event::ENTRY;
-use small::both;
 
 #[derive(Clone, Copy)]
 pub struct Ahead {
@@ -25,8 +23,9 @@ pub struct Next {
 }
 
 // The event gets the next insertion number; its time has to be permitted.
+#[tactic(auto, unfolding(crate::specs::Ahead::queued))]
 pub fn queue_event(
-    room: &mut [[u64; ENTRY]; EVENTS],
+    room: &mut [Event; EVENTS],
     a: Next,
     time: f64,
     kind: EventKind,
@@ -36,15 +35,15 @@ pub fn queue_event(
     ensures { whole_ahead result room.new ≡ queued (whole_ahead a room.old) time kind job generation }
 {
     let e = Event {
-        time: time,
+        time,
         number: a.next,
-        kind: kind,
-        job: job,
-        generation: generation,
+        kind,
+        job,
+        generation,
     };
     add_event(room, e);
     Next {
         next: std::num::wrapping_add_u64(a.next, 1),
-        ok: both(a.ok, is_permitted(time)),
+        ok: a.ok && is_permitted(time),
     }
 }

@@ -3,69 +3,54 @@
 use crate::fields::{bits, number};
 use model::job::{Job, JobState};
 use model::plan::Plan;
-use model::sizes::JOBS;
-use planner::{Placeable, can_place};
+use planner::{NoSuchJob, can_place};
 use text::put::{put_bytes, put_newline};
 
 // The state, then waiting-since of a waiting job and the start of a running one.
-fn state(out: &mut [u8], at: usize, j: Job) -> usize {
-    let s = j.state;
-    match s {
+fn state(out: &mut [u8], at: usize, j: &Job) -> usize {
+    match j.state {
         JobState::Pending => put_bytes(out, at, b" pending - -"),
         JobState::Waiting => {
-            let a = put_bytes(out, at, b" waiting");
-            let b = bits(out, a, j.since);
-            put_bytes(out, b, b" -")
+            let to = put_bytes(out, at, b" waiting");
+            let to = bits(out, to, j.since);
+            put_bytes(out, to, b" -")
         }
         JobState::Placed => put_bytes(out, at, b" placed - -"),
         JobState::Running => {
-            let a = put_bytes(out, at, b" running -");
-            bits(out, a, j.start)
+            let to = put_bytes(out, at, b" running -");
+            bits(out, to, j.start)
         }
         JobState::Finished => put_bytes(out, at, b" finished - -"),
         JobState::Failed => put_bytes(out, at, b" failed - -"),
     }
 }
 
-fn seconds(out: &mut [u8], at: usize, j: Job) -> usize {
-    let to = bits(out, at, j.remaining);
-    bits(out, to, j.waited)
-}
-
-fn counts(out: &mut [u8], at: usize, j: Job) -> usize {
-    let mut to = number(out, at, j.evictions as u64);
-    to = number(out, to, j.run as u64);
-    number(out, to, j.timeouts as u64)
-}
-
-fn placeable(out: &mut [u8], at: usize, answer: Placeable) -> usize {
+fn placeable(out: &mut [u8], at: usize, answer: Result<bool, NoSuchJob>) -> usize {
     match answer {
-        Placeable::Yes => put_bytes(out, at, b" yes"),
-        Placeable::No => put_bytes(out, at, b" no"),
-        Placeable::NoSuchJob => put_bytes(out, at, b" refused 13"),
+        Ok(true) => put_bytes(out, at, b" yes"),
+        Ok(false) => put_bytes(out, at, b" no"),
+        Err(NoSuchJob) => put_bytes(out, at, b" refused 13"),
     }
 }
 
-fn job(out: &mut [u8], at: usize, i: usize, j: Job, answer: Placeable) -> usize {
-    let mut to = put_bytes(out, at, b"# job");
-    to = number(out, to, i as u64);
-    to = state(out, to, j);
-    to = seconds(out, to, j);
-    to = counts(out, to, j);
-    to = placeable(out, to, answer);
+fn job(out: &mut [u8], at: usize, i: usize, j: &Job, answer: Result<bool, NoSuchJob>) -> usize {
+    let to = put_bytes(out, at, b"# job");
+    let to = number(out, to, i as u64);
+    let to = state(out, to, j);
+    let to = bits(out, to, j.remaining);
+    let to = bits(out, to, j.waited);
+    let to = number(out, to, u64::from(j.evictions));
+    let to = number(out, to, u64::from(j.run));
+    let to = number(out, to, u64::from(j.timeouts));
+    let to = placeable(out, to, answer);
     put_newline(out, to)
 }
 
-pub fn jobs(out: &mut [u8], at: usize, plan: Plan, n: usize) -> usize {
-    let table = plan.jobs;
+pub fn jobs(out: &mut [u8], at: usize, plan: &Plan) -> usize {
+    let n = usize::from(plan.setting.jobs);
     let mut to = at;
-    let mut i: usize = 0;
-    while i < n {
-        if JOBS <= i {
-            return to;
-        }
-        to = job(out, to, i, table[i], can_place(plan, i));
-        i = i + 1;
+    for (i, j) in plan.jobs.iter().enumerate().take(n) {
+        to = job(out, to, i, j, can_place(*plan, i));
     }
     to
 }

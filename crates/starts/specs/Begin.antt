@@ -8,11 +8,11 @@ use Rattle.model.specs.declared.event.Event.{Event}
 use Rattle.model.specs.declared.event.EventKind.TheVariants.{Completion}
 use Rattle.model.specs.declared.job.Ask.{Ask}
 use Rattle.model.specs.declared.setting.Options.{Options}
+use Rattle.model.specs.declared.job.Job.{Job}
 use Rattle.decision_log.specs.Log.{told}
 use Rattle.decision_log.specs.declared.Kind.TheVariants.{Started}
 use Rattle.life.specs.Life as Life
 use Rattle.noted.specs.Noted as Noted
-use Rattle.rows.specs.Job.{jobs_of}
 use Rattle.room.specs.Ahead.{whole_ahead, queued}
 use Rattle.room.specs.declared.ahead.Next.{Next}
 use Rattle.room.specs.declared.ahead.Ahead.{Ahead}
@@ -43,8 +43,8 @@ pub also_whole : (a : Next) (events : List Event) (good : Bool) (b : Ahead) → 
 also_whole a events good b e = ap (λ (x : Ahead). also x good) e
 
 -- what starts change, with the tables that were lent
-abbrev pub whole_begun : Beginning → List (List ℕ) → List (List ℕ) → Begun
-whole_begun b jobs room = record { jobs = jobs_of jobs; ahead = whole_ahead b.ahead room; totals = b.totals; log = b.log }
+abbrev pub whole_begun : Beginning → List Job → List Event → Begun
+whole_begun b jobs room = record { jobs = jobs; ahead = whole_ahead b.ahead room; totals = b.totals; log = b.log }
 
 -- A start: delays are added to the clock, the completion is queued at start + remaining × multiplier under the new run generation; start, waited and added runtime have to be permitted too.
 unfoldable pub begun : Options → Float → Begun → Placing → Begun

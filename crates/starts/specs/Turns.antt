@@ -1,28 +1,7 @@
--- Loops that take the first entries of a table one after the other.
-use Rattle.std.specs.Prelude.{◌≡◌, ℕ, ◌+◌, ◌<◌, ◌≤◌, min, get_or, take, drop}
-use Rattle.std.proofs.Common.{sym, ◌∙◌, ⊎_elim, add-one, arith, drop_of_length-le, drop-cons, take_all, get_or-take}
-use mathlib.Core.List.{List, [], ◌∷◌}
-use Rattle.std.proofs.Math.ListN.{length}
-use Rattle.std.proofs.Math.Seq.{length-take-le}
-use Rattle.laws.specs.Tests.{le_or_lt}
+-- Loops that take the entries of a table one after the other.
+use Rattle.std.specs.Prelude.{◌≡◌, List, [], ◌∷◌, ℕ, ◌+◌, ◌<◌, ◌≤◌, length, get_or, drop}
+use Rattle.std.proofs.Common.{add-one, drop_of_length-le, drop-cons}
 use Rattle.laws.specs.Lists.{All}
-
-module _ {A : Type 0} (t : List A) where
-  -- the entries left begin with the one at hand
-  pub left_turn : (m i : ℕ) (x d : A) → i < m → m ≤ length t → x ≡ get_or t i d → drop i (take m t) ≡ x ∷ drop (i + 1) (take m t)
-  left_turn m i x d h k e =
-      let l : length (take m t) ≡ m = length-take-le m t k in
-      let a : get_or (take m t) i d ≡ x = get_or-take m t i d h ∙ sym e in
-      let b : drop i (take m t) ≡ get_or (take m t) i d ∷ drop (i + 1) (take m t) = rw add-one (drop-cons (take m t) i d (omega arith)) in
-      b ∙ rw a
-
-  -- the first n of a table are the first of as many as it has
-  pub take_lesser : (n size : ℕ) → length t ≡ size → take (min n size) t ≡ take n t
-  take_lesser n size h =
-      ⊎_elim
-      (λ a. let e : min n size ≡ n = omega arith in rw e)
-      (λ a. let e : min n size ≡ size = omega arith in rw (e, take_all size t (omega arith), take_all n t (omega arith)))
-      (le_or_lt n size)
 
 module _ {S A : Type 0} (f : S → A → S) where
   -- the state after all entries, from the first on
@@ -30,21 +9,15 @@ module _ {S A : Type 0} (f : S → A → S) where
   folded s [] = s
   folded s (x ∷ l) = folded (f s x) l
 
-  -- before the first turn all are left
-  pub folded_start : (s : S) (t : List A) (n m size : ℕ) → m ≡ min n size → length t ≡ size → folded s (take m t) ≡ folded s (take n t)
-  folded_start s t n m size e l = rw (e, take_lesser t n size l)
-
   -- a turn takes the first of those left
-  pub folded_turn : (s : S) (t : List A) (m i : ℕ) (x d : A) → i < m → m ≤ length t → x ≡ get_or t i d →
-      folded (f s x) (drop (i + 1) (take m t)) ≡ folded s (drop i (take m t))
+  pub folded_next : (s : S) (l : List A) (i : ℕ) (d : A) → i < length l → folded (f s (get_or l i d)) (drop (i + 1) l) ≡ folded s (drop i l)
   unfolding folded
-  folded_turn s t m i x d h k e = rw (left_turn t m i x d h k e)
+  folded_next s l i d h = rw (add-one, drop-cons l i d h)
 
   -- after the last turn none is left
-  pub folded_done : (s : S) (t : List A) (m i : ℕ) → m ≤ i → m ≤ length t → s ≡ folded s (drop i (take m t))
+  pub folded_over : (s : S) (l : List A) (i : ℕ) → length l ≤ i → s ≡ folded s (drop i l)
   unfolding folded
-  folded_done s t m i h k =
-      let l : length (take m t) ≤ i = omega (arith, length-take-le m t k) in rw (drop_of_length-le (take m t) l)
+  folded_over s l i h = rw (drop_of_length-le l h)
 
   -- what each entry keeps holds after all
   pub folded_keeps : (P : S → Type 0) → ((s : S) (x : A) → P s → P (f s x)) → (s : S) (l : List A) → P s → P (folded s l)

@@ -6,7 +6,7 @@ ghost use Rattle.starts.specs.Begin.{no_placing, amount, also_next, whole_begun,
 
 use decision_log::{Kind, Log, tell};
 use life::{completion_at, multiplier_of, start, start_at};
-use model::event::EventKind;
+use model::event::{Event, EventKind};
 use model::job::{Ask, Job};
 use model::number::{bits_of, is_permitted};
 use model::setting::Options;
@@ -14,9 +14,7 @@ use model::sizes::{EVENTS, JOBS};
 use model::totals::Totals;
 use noted::after_start;
 use room::ahead::{Ahead, Next, queue_event};
-use rows::event::ENTRY;
-use rows::job::{ROW, read_job, write_job};
-use small::{both, lesser, wide_id};
+use tables::{Entry, read, write};
 
 // A job placed in the pass: whether a GPU was cut for it, and whether it is penalised.
 #[derive(Clone, Copy)]
@@ -24,6 +22,19 @@ pub struct Placing {
     pub job: u16,
     pub cut: bool,
     pub penalised: bool,
+}
+
+#[tactic(auto, unfolding(crate::specs::Begin::no_placing))]
+impl Entry for Placing {
+    ghost none = { no_placing };
+
+    fn none() -> Placing {
+        Placing {
+            job: 0,
+            cut: false,
+            penalised: false,
+        }
+    }
 }
 
 // What starts change.
@@ -43,32 +54,23 @@ pub struct Beginning {
     pub log: Log,
 }
 
-pub fn no_placing() -> Placing
-    ensures { result ≡ no_placing }
-{
-    Placing {
-        job: 0,
-        cut: false,
-        penalised: false,
-    }
-}
-
 // GPUs or slices: what a start and a completion tell.
 pub fn amount(ask: Ask) -> u16
     ensures { result ≡ amount ask }
 {
-    if ask.profile == 0 {
-        return ask.count as u16;
-    }
-    ask.slices as u16
+    u16::from(if ask.profile == 0 {
+        ask.count
+    } else {
+        ask.slices
+    })
 }
 
 fn also(a: Next, good: bool) -> Next
     ensures { result ≡ also_next a good }
 {
     Next {
-        next: a.next,
-        ok: both(a.ok, good),
+        ok: a.ok && good,
+        ..a
     }
 }
 
@@ -76,15 +78,13 @@ fn also(a: Next, good: bool) -> Next
 fn are_permitted(at: f64, waited: f64, added: f64) -> bool
     ensures { result ≡ ((permitted at && permitted waited) && permitted added) }
 {
-    both(
-        both(is_permitted(at), is_permitted(waited)),
-        is_permitted(added),
-    )
+    is_permitted(at) && is_permitted(waited) && is_permitted(added)
 }
 
+#[tactic(auto, unfolding(crate::specs::Begin::begun))]
 fn begin(
-    jobs: &mut [[u64; ROW]; JOBS],
-    room: &mut [[u64; ENTRY]; EVENTS],
+    jobs: &mut [Job; JOBS],
+    room: &mut [Event; EVENTS],
     b: Beginning,
     options: Options,
     clock: f64,
@@ -93,30 +93,26 @@ fn begin(
     ensures { whole_begun result jobs.new room.new
         ≡ begun options clock (whole_begun b jobs.old room.old) p }
 {
-    let ahead = b.ahead;
-    let totals = b.totals;
-    let log = b.log;
-    let i = wide_id(p.job);
-    let j = read_job(jobs, i);
-    let ask = j.ask;
+    let i = usize::from(p.job);
+    let j = read(jobs, i);
     let at = start_at(j, clock, options, p.cut);
     let multiplier = multiplier_of(options, p.penalised);
     let s = start(j, at);
-    let sums = after_start(totals, p.cut, p.penalised, j.remaining, multiplier);
-    let good = are_permitted(at, s.waited, sums.added);
+    let totals = after_start(b.totals, p.cut, p.penalised, j.remaining, multiplier);
+    let good = are_permitted(at, s.waited, totals.added);
     let end = completion_at(j, at, multiplier);
-    let queued = queue_event(room, ahead, end, EventKind::Completion, p.job, s.run);
-    write_job(jobs, i, s);
+    let queued = queue_event(room, b.ahead, end, EventKind::Completion, p.job, s.run);
+    write(jobs, i, s);
     Beginning {
         ahead: also(queued, good),
-        totals: sums,
-        log: tell(log, bits_of(at), Kind::Started, p.job, amount(ask)),
+        totals,
+        log: tell(b.log, bits_of(at), Kind::Started, p.job, amount(j.ask)),
     }
 }
 
 pub fn begin_all(
-    jobs: &mut [[u64; ROW]; JOBS],
-    room: &mut [[u64; ENTRY]; EVENTS],
+    jobs: &mut [Job; JOBS],
+    room: &mut [Event; EVENTS],
     b: Beginning,
     options: Options,
     clock: f64,
@@ -126,13 +122,9 @@ pub fn begin_all(
     ensures { whole_begun result jobs.new room.new
         ≡ begun_all options clock (whole_begun b jobs.old room.old) (take count placed) }
 {
-    let n = lesser(count, JOBS);
     let mut work = b;
-    let mut i: usize = 0;
-    while i < n {
-        let after = begin(jobs, room, work, options, clock, placed[i]);
-        work = after;
-        i = i + 1;
+    for p in &placed[..count.min(JOBS)] {
+        work = begin(jobs, room, work, options, clock, *p);
     }
     work
 }

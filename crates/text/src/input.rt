@@ -8,11 +8,11 @@ use std::io::Read;
 pub fn read_full(input: &mut impl Read, buffer: &mut [u8]) -> usize
     ensures { IsPrefixLen result buffer.new }
 {
-    let mut done: usize = 0;
+    let mut done = 0;
     while done < buffer.len() {
         match input.read(&mut buffer[done..]) {
             Ok(0) | Err(_) => return done,
-            Ok(n) => done = done + n,
+            Ok(n) => done += n,
         }
     }
     done

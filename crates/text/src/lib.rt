@@ -7,6 +7,5 @@ pub mod frame;
 pub mod input;
 pub mod page;
 pub mod put;
-pub mod same;
 pub mod told;
 pub mod word;

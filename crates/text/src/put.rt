@@ -10,31 +10,20 @@ pub fn put_byte(out: &mut [u8], at: usize, b: u8) -> usize
 {
     if at < out.len() {
         out[at] = b;
-        return at + 1;
+        at + 1
+    } else {
+        out.len()
     }
-    out.len()
-}
-
-// A place past the end counts as the end.
-fn inside(at: usize, length: usize) -> usize
-    ensures { result ≡ min at length }
-{
-    if at < length {
-        return at;
-    }
-    length
 }
 
 pub fn put_bytes(out: &mut [u8], at: usize, s: &[u8]) -> usize
     ensures { IsPrefixLen result out.new }
 {
-    let mut to = inside(at, out.len());
-    let mut i: usize = 0;
-    while i < s.len() {
-        to = put_byte(out, to, s[i]);
-        i = i + 1;
-    }
-    to
+    // A place past the end counts as the end.
+    let from = at.min(out.len());
+    let n = s.len().min(out.len() - from);
+    out[from..from + n].copy_from_slice(&s[..n]);
+    from + n
 }
 
 pub fn put_space(out: &mut [u8], at: usize) -> usize
@@ -70,10 +59,10 @@ pub fn put_hex(out: &mut [u8], at: usize, bits: u64) -> usize
 pub fn put_maybe(out: &mut [u8], at: usize, n: u64) -> usize
     ensures { IsPrefixLen result out.new }
 {
-    if n == 0 {
-        return put_byte(out, at, b'-');
+    match n.checked_sub(1) {
+        Some(n) => put_decimal(out, at, n),
+        None => put_byte(out, at, b'-'),
     }
-    put_decimal(out, at, n - 1)
 }
 
 // The answer of a load, by its number, 0 where it is accepted, and its place.
@@ -83,8 +72,8 @@ pub fn put_answer(out: &mut [u8], at: usize, number: u64, place: u64) -> usize
     if number == 0 {
         return put_bytes(out, at, b"loaded");
     }
-    let a = put_bytes(out, at, b"refused ");
-    let b = put_decimal(out, a, number);
-    let c = put_bytes(out, b, b" at ");
-    put_decimal(out, c, place)
+    let to = put_bytes(out, at, b"refused ");
+    let to = put_decimal(out, to, number);
+    let to = put_bytes(out, to, b" at ");
+    put_decimal(out, to, place)
 }

@@ -1,28 +1,17 @@
 // Numbers before the text: a byte, and a word of four bytes, low byte first.
 
-ghost use Rattle.std.specs.Prelude.{◌<◌, ◌^◌};
-
-fn wide(x: u8) -> u64
-    ensures { result < 256 }
-{
-    x as u64
-}
+ghost use Rattle.std.specs.Prelude.{◌≡◌, ◌+◌, ◌*◌, ◌^◌, slice_index};
 
 // The byte at a place; past the end each is 0.
-pub fn byte_at(s: &[u8], at: usize) -> u64
-    ensures { result < 256 }
+pub fn byte_at(s: &[u8], at: usize) -> u8
+    ensures { result ≡ slice_index s.now at }
 {
-    if at < s.len() {
-        return wide(s[at]);
-    }
-    0
+    s.get(at).copied().unwrap_or(0)
 }
 
 // The word at the start of s.
-pub fn first_word(s: &[u8]) -> u64
-    ensures { result < 2 ^ 32 }
+pub fn first_word(s: &[u8]) -> u32
+    ensures { result ≡ slice_index s.now 0 + 2 ^ 8 * slice_index s.now 1 + 2 ^ 16 * slice_index s.now 2 + 2 ^ 24 * slice_index s.now 3 }
 {
-    let low = byte_at(s, 0) + 256 * byte_at(s, 1);
-    let high = byte_at(s, 2) + 256 * byte_at(s, 3);
-    low + 65536 * high
+    u32::from_le_bytes([byte_at(s, 0), byte_at(s, 1), byte_at(s, 2), byte_at(s, 3)])
 }

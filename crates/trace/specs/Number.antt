@@ -1,15 +1,29 @@
 -- Numbers: groups of seven bits, low group first, the top bit set on all groups but the last; shortest form only, at most 64 bits.
-use Rattle.std.specs.Prelude.{List, [], ◌∷◌, ℕ, zero, suc, ◌+◌, ◌-◌, ◌*◌, ltb, eqb}
+use Rattle.std.specs.Prelude.{List, [], ◌∷◌, ℕ, zero, suc, ◌+◌, ◌-◌, ◌*◌, ltb, eqb, Result, Ok, Err}
 use Rattle.laws.specs.Choice.{pick}
-use Rattle.trace.specs.declared.number.Number.{Number}
-use Rattle.trace.specs.declared.number.Number.TheVariants.{Value, Ends, Padded, Oversized}
+use Rattle.trace.specs.declared.number.NumberFault.{NumberFault}
+use Rattle.trace.specs.declared.number.NumberFault.TheVariants as N
+
+-- a number and the bytes that it takes, or why the bytes give none
+abbrev pub Number : Type 0
+Number = Result (ℕ × ℕ) NumberFault
+
+abbrev pub Value : ℕ → ℕ → Number
+Value v n = Ok (v, n)
+
+abbrev pub Ends : Number
+Ends = Err N.Ends
+
+abbrev pub Padded : Number
+Padded = Err N.Padded
+
+abbrev pub Oversized : Number
+Oversized = Err N.Oversized
 
 -- a group below the rest of the number
 abbrev pub above : ℕ → Number → Number
-above low (Value v n) = Value (low + 128 * v) (n + 1)
-above low Ends = Ends
-above low Padded = Padded
-above low Oversized = Oversized
+above low (Ok p) = Value (low + 128 * p.0) (p.1 + 1)
+above low (Err e) = Err e
 
 -- the tenth byte holds the 64th bit alone: 01
 unfoldable pub tenth : List ℕ → Number
@@ -28,14 +42,10 @@ number s = groups 9 0 s
 
 -- how many bytes it takes
 abbrev pub taken : Number → ℕ
-taken (Value v n) = n
-taken Ends = 0
-taken Padded = 0
-taken Oversized = 0
+taken (Ok p) = p.1
+taken (Err e) = 0
 
 -- a number whose first i groups, of weights below unit, sum to low
 abbrev pub carried : ℕ → ℕ → ℕ → Number → Number
-carried low unit i (Value v n) = Value (low + unit * v) (i + n)
-carried low unit i Ends = Ends
-carried low unit i Padded = Padded
-carried low unit i Oversized = Oversized
+carried low unit i (Ok p) = Value (low + unit * p.0) (i + p.1)
+carried low unit i (Err e) = Err e

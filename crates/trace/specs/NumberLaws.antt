@@ -1,20 +1,16 @@
 -- Laws of numbers: where they end.
-use Rattle.std.specs.Prelude.{◌≡◌, refl, List, [], ◌∷◌, ℕ, zero, suc, ◌+◌, ◌-◌, ◌≤◌, ltb, eqb, length, drop}
+use Rattle.std.specs.Prelude.{◌≡◌, refl, List, [], ◌∷◌, ℕ, zero, suc, ◌+◌, ◌-◌, ◌≤◌, ltb, eqb, length, drop, Ok, Err}
 use Rattle.std.proofs.Common.{arith, length-drop}
 use Rattle.laws.specs.Choice.{pick, pick_either}
-use Rattle.trace.specs.declared.number.Number.{Number}
-use Rattle.trace.specs.declared.number.Number.TheVariants.{Value, Ends, Padded, Oversized}
-use Rattle.trace.specs.Number.{above, tenth, groups, number, taken}
+use Rattle.trace.specs.Number.{Number, Value, Ends, Padded, Oversized, above, tenth, groups, number, taken}
 
 -- takes at most n bytes
 abbrev Within : ℕ → Number → Type 0
 Within n r = taken r ≤ n
 
 above_within : (low n : ℕ) (r : Number) → Within n r → Within (suc n) (above low r)
-above_within low n (Value v k) h = omega arith
-above_within low n Ends h = omega arith
-above_within low n Padded h = omega arith
-above_within low n Oversized h = omega arith
+above_within low n (Ok p) h = omega arith
+above_within low n (Err e) h = omega arith
 
 tenth_within : (s : List ℕ) → Within (length s) (tenth s)
 unfolding tenth

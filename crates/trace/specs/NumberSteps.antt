@@ -1,5 +1,5 @@
 -- The number, a byte at a time: what each byte decides, and what is carried past a group.
-use Rattle.std.specs.Prelude.{◌≡◌, refl, List, ltb, eqb, length, get_or, drop}
+use Rattle.std.specs.Prelude.{◌≡◌, refl, List, ltb, eqb, length, get_or, drop, Ok, Err}
 use Prim.Native.Nat.{ℕ, suc, ◌+◌, ◌-◌, ◌*◌, ◌^◌, ◌≤◌, ◌<◌}
 use Rattle.std.proofs.Common.{mul-add, mul_assoc, mul-le-mul_left, pow-suc, lt-ltb, le-ltb, ne_eqb}
 use Rattle.std.proofs.Math.Nat.{pow-le-pow_right}
@@ -8,9 +8,7 @@ use native.Mathlib.Omega.{arith}
 use Rattle.std.proofs.Math.ListN.{drop_of_length-le}
 use Rattle.std.proofs.Math.Seq.{drop-cons}
 use Rattle.laws.specs.Choice.{pick}
-use Rattle.trace.specs.declared.number.Number.{Number}
-use Rattle.trace.specs.declared.number.Number.TheVariants.{Value, Ends, Padded, Oversized}
-use Rattle.trace.specs.Number.{above, tenth, groups, number, carried}
+use Rattle.trace.specs.Number.{Number, Value, Ends, Padded, Oversized, above, tenth, groups, number, carried}
 
 -- a further group stays below the next unit, and no unit passes 2^63
 pub room : (i sum unit b : ℕ) → i < 9 → unit ≡ 128 ^ i → sum < unit → b < 128 → (sum + unit * b < unit * 128) × (unit * 128 ≤ 2 ^ 63)
@@ -50,21 +48,17 @@ unfolding number
 start s = nothing (groups 9 0 s)
   where
     nothing : (r : Number) → carried 0 1 0 r ≡ r
-    nothing (Value v n) = let e : 0 + 1 * v ≡ v = omega arith in let k : 0 + n ≡ n = omega arith in rw (e, k)
-    nothing Ends = refl
-    nothing Padded = refl
-    nothing Oversized = refl
+    nothing (Ok p) = let e : 0 + 1 * p.0 ≡ p.0 = omega arith in let k : 0 + p.1 ≡ p.1 = omega arith in rw (e, k)
+    nothing (Err e) = refl
 
 -- a group is carried into the sum, and the unit grows
 pub carry_on : (sum unit i low : ℕ) (r : Number) → carried sum unit i (above low r) ≡ carried (sum + unit * low) (unit * 128) (i + 1) r
-carry_on sum unit i low (Value v n) =
-    let e : unit * (low + 128 * v) ≡ unit * low + unit * 128 * v = rw (mul-add, mul_assoc) in
-    let a : sum + unit * (low + 128 * v) ≡ sum + unit * low + unit * 128 * v = omega arith in
-    let b : i + (n + 1) ≡ i + 1 + n = omega arith in
+carry_on sum unit i low (Ok p) =
+    let e : unit * (low + 128 * p.0) ≡ unit * low + unit * 128 * p.0 = rw (mul-add, mul_assoc) in
+    let a : sum + unit * (low + 128 * p.0) ≡ sum + unit * low + unit * 128 * p.0 = omega arith in
+    let b : i + (p.1 + 1) ≡ i + 1 + p.1 = omega arith in
     rw (a, b)
-carry_on sum unit i low Ends = refl
-carry_on sum unit i low Padded = refl
-carry_on sum unit i low Oversized = refl
+carry_on sum unit i low (Err e) = refl
 
 module _ (s : List ℕ) where
   pub tenth_end : length s ≤ 9 → tenth (drop 9 s) ≡ Ends
@@ -83,3 +77,5 @@ module _ (s : List ℕ) where
 
   pub tenth_over : 9 < length s → (get_or s 9 0 ≡ 0 → ⊥) → (get_or s 9 0 ≡ 1 → ⊥) → tenth (drop 9 s) ≡ Oversized
   tenth_over h k l = rw (tenth_at h, ne_eqb (get_or s 9 0) 0 k, ne_eqb (get_or s 9 0) 1 l)
+
+pub ruleset tenth_steps = (tenth_end, tenth_padded, tenth_one, tenth_over)

@@ -3,61 +3,49 @@
 ghost use Rattle.std.specs.Prelude.{◌≡◌, ◌<◌, ◌^◌, drop};
 ghost use Rattle.trace.specs.Number.{number, tenth, carried};
 
-// A number with the bytes that it takes, or why the bytes at hand give none.
-#[derive(Clone, Copy)]
-pub enum Number {
-    Value(u64, usize),
+// Why the bytes at hand give no number.
+#[derive(Clone, Copy, PartialEq, Eq)]
+pub enum NumberFault {
     Ends,
     Padded,
     Oversized,
 }
 
-fn wide(b: u8) -> u64
-    ensures { result ≡ b }
-{
-    b as u64
-}
-
 // The tenth byte, above nine groups that sum to low.
-fn tenth_byte(s: &[u8], low: u64) -> Number
+#[tactic(auto, using(crate::specs::NumberSteps::tenth_steps))]
+fn tenth_byte(s: &[u8], low: u64) -> Result<(u64, usize), NumberFault>
     requires { low < 2 ^ 63 }
     ensures { result ≡ carried low (2 ^ 63) 9 (tenth (drop 9 s.now)) }
 {
-    if s.len() <= 9 {
-        return Number::Ends;
+    match s.get(9) {
+        None => Err(NumberFault::Ends),
+        Some(0) => Err(NumberFault::Padded),
+        Some(1) => Ok((low + 0x8000_0000_0000_0000, 10)),
+        Some(_) => Err(NumberFault::Oversized),
     }
-    let b = wide(s[9]);
-    if b == 0 {
-        return Number::Padded;
-    }
-    if b == 1 {
-        return Number::Value(low + 0x8000_0000_0000_0000, 10);
-    }
-    Number::Oversized
 }
 
-pub fn read_number(s: &[u8]) -> Number
+// The number at the front of the bytes, with the bytes that it takes.
+pub fn read_number(s: &[u8]) -> Result<(u64, usize), NumberFault>
     ensures { result ≡ number s.now }
 {
     let mut sum: u64 = 0;
     let mut unit: u64 = 1;
     let mut least: u64 = 0;
-    let mut i: usize = 0;
-    while i < 9 {
+    for i in 0..9 {
         if s.len() <= i {
-            return Number::Ends;
+            return Err(NumberFault::Ends);
         }
-        let b = wide(s[i]);
+        let b = s[i] as u64;
         if b < least {
-            return Number::Padded;
+            return Err(NumberFault::Padded);
         }
         if b < 128 {
-            return Number::Value(sum + unit * b, i + 1);
+            return Ok((sum + unit * b, i + 1));
         }
-        sum = sum + unit * (b - 128);
-        unit = unit * 128;
+        sum += unit * (b - 128);
+        unit *= 128;
         least = 1;
-        i = i + 1;
     }
     tenth_byte(s, sum)
 }

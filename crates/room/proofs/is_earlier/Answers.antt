@@ -1,35 +1,16 @@
 -- What is left to show of `is_earlier`.
-use Rattle.std.proofs.Common.{le-ltb, lt-ltb}
+use Rattle.std.proofs.Common.{◌≡◌, ℕ, true, false, ltb, ◌∙◌, arith}
+use Rattle.std.proofs.lemmas.Bool.Decides.{nat_tests}
+use Rattle.std.specs.Ordering.{partial_lt, partial_ordering_then, nat_cmp}
+use Rattle.std.specs.Prelude.{Some}
+use Rattle.laws.specs.Choice.{pick}
 use Rattle.room.specs.Room.{earlier}
 use Rattle.room.proofs.is_earlier.Goals as goal
 
-pub returns-then-x-y : goal.returns-then-x-y
-unfolding earlier
-returns-then-x-y c =
-    let bits-of2 = c.bits_of-y in
-    let bits_of = c.bits_of-x in
-    rw (← bits-of2.ensures, ← bits_of.ensures, lt-ltb bits_of.result bits-of2.result c.if-x-y.true)
-
-pub returns-then-y-x : goal.returns-then-y-x
-unfolding earlier
-returns-then-y-x c =
-    let bits-of2 = c.bits_of-y in
-    let bits_of = c.bits_of-x in
-    rw (
-      ← bits-of2.ensures,
-      ← bits_of.ensures,
-      le-ltb bits_of.result bits-of2.result c.if-x-y.false,
-      lt-ltb bits-of2.result bits_of.result c.if-y-x.true,
-    )
+pair_less : (x y n m : ℕ) → partial_lt {X = ℕ × ℕ} (λ p q. partial_ordering_then (Some (nat_cmp p.0 q.0)) (Some (nat_cmp p.1 q.1))) (x, n) (y, m)
+    ≡ pick (ltb x y) true (pick (ltb y x) false (ltb n m))
+pair_less x y n m = grind (arith, nat_tests)
 
 pub returns : goal.returns
 unfolding earlier
-returns c =
-    let bits-of2 = c.bits_of-y in
-    let bits_of = c.bits_of-x in
-    rw (
-      ← bits-of2.ensures,
-      ← bits_of.ensures,
-      le-ltb bits_of.result bits-of2.result c.if-x-y.false,
-      le-ltb bits-of2.result bits_of.result c.if-y-x.false,
-    )
+returns c = rw (← c.bits_of.ensures, ← c.bits_of-2.ensures) (c.lt.ensures ∙ pair_less c.bits_of.result c.bits_of-2.result c.args.a.number c.args.b.number)

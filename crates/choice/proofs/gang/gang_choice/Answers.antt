@@ -1,46 +1,32 @@
 -- What is left to show of `gang_choice`.
-use Rattle.std.proofs.Common.{rules}
+use Rattle.std.proofs.Common.{rules, length}
 use mathlib.Core.Path.{◌≡◌, refl}
-use Prim.Native.Nat.{◌<◌}
-use native.Mathlib.Omega.{arith}
-use lib.ListN.{length}
 use Rattle.eligible.specs.Chosen.{list_of}
 use Rattle.eligible.specs.Turns.{held_length}
 use Rattle.choice.specs.Gang.{shares, any_parted}
 use Rattle.choice.specs.Cases.{share_turn, parted_turn, gang_done}
 use Rattle.choice.proofs.gang.gang_choice.Goals as goal
 
-pub loop-i-init : goal.loop-i-init
+pub loop-k-init : goal.loop-k-init
 unfolding shares any_parted
-loop-i-init c = (omega arith, omega arith, c.no_chosen-all.ensures, refl, search rules)
+loop-k-init c = (c.new-all.ensures, refl)
 
-pub loop-i-preserved : goal.loop-i-preserved
-loop-i-preserved c =
-    let node-share = c.node_share-s in
-    let with-key = c.with_key in
-    let here = c.loop-i in
-    let gang-nodes = c.gang_nodes-taken in
+pub loop-k-preserved : goal.loop-k-preserved
+loop-k-preserved c =
     let start = c.args in
-    let z : length gang-nodes.result.ids ≡ 128 = here.invariant.4 in
-    let h : here.i < length gang-nodes.result.ids = omega arith in (
-      omega arith,
-      omega arith,
-      share_turn start.nodes start.groups (list_of start.e) start.per gang-nodes.result.ids here.i h with-key.result
-          node-share.result with-key.ensures node-share.ensures here.all _ here.invariant.2 c.append-joined.ensures,
-      parted_turn start.nodes start.groups (list_of start.e) start.per gang-nodes.result.ids here.i h with-key.result
-          node-share.result with-key.ensures node-share.ensures here.penalised _ here.invariant.3 c.either-penalised.ensures,
-      z,
+    let here = c.loop-k in (
+      share_turn start.nodes start.groups (list_of start.e) start.per c.numbers-k-items.result.now here.k-index c.loop-k-test.true
+          c.with_key.result c.node_share-share.result c.with_key.ensures c.node_share-share.ensures _ _ c.numbers.ensures
+          (c.extend.ensures _ here.invariant.0),
+      parted_turn start.nodes start.groups (list_of start.e) start.per c.numbers-k-items.result.now here.k-index c.loop-k-test.true
+          c.with_key.result c.node_share-share.result c.with_key.ensures c.node_share-share.ensures here.penalised _ here.invariant.1 refl,
     )
 
 pub returns : goal.returns
 returns c =
     let start = c.args in
+    let here = c.loop-k in
     let y : length start.e.ids ≡ 128 = search rules in
-    let gang-nodes = c.gang_nodes-taken in
-    let z : length gang-nodes.result.ids ≡ 128 = search rules in
-    let here = c.loop-i in
-    let lesser = c.lesser-n in
-    let i : here.i ≡ lesser.result = omega arith in
-    gang_done start.nodes start.groups (list_of start.e) start.per start.g lesser.result gang-nodes.result here.all
-    here.penalised c.take_these.result gang-nodes.ensures z lesser.ensures (held_length start.e y) (rw i at here.invariant.2)
-    (rw i at here.invariant.3) c.take_these.ensures
+    gang_done start.nodes start.groups (list_of start.e) start.per start.g here.k-index c.numbers-k-items.result.now c.gang_nodes-taken.result
+    here.all here.penalised c.take_these.result c.gang_nodes-taken.ensures c.numbers-k-items.ensures c.loop-k-test.false (held_length start.e y)
+    here.invariant.0 here.invariant.1 c.take_these.ensures

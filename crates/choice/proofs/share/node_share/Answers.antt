@@ -1,20 +1,23 @@
 -- What is left to show of `node_share`.
+use Rattle.std.proofs.Common.{◌≡◌, leb, rules, tests}
+use Rattle.std.specs.List.{position}
+use Rattle.std.proofs.lemmas.Iterator.{YieldsList-from_slice}
+use Rattle.std.proofs.lemmas.Iterator.Search.{position_from_yields_List}
 use Rattle.choice.specs.Cases.{share_one, share_none}
 use Rattle.choice.proofs.share.node_share.Goals as goal
 
-pub returns-then-key-lt257 : goal.returns-then-key-lt257
-returns-then-key-lt257 c =
-    let first_of = c.first_of in
-    let with-key = c.with_key in
-    let first-holding = c.first_holding-key in
-    let tally = c.tally-counts in
-    share_one _ _ tally.result _ first-holding.result first_of.result _ tally.ensures first-holding.ensures with-key.result
-    c.if-key-lt257.true with-key.ensures first_of.ensures c.take_these.ensures
+pub returns-in-Some : goal.returns-in-Some
+returns-in-Some c =
+    let p : c.position.result ≡ position (λ x. leb c.args.per x) c.tally.result =
+    position_from_yields_List (λ x. leb c.args.per x) _ _ _ c.position.ensures.ran (YieldsList-from_slice c.tally.result cc)
+    (λ x b q k. search (rules, tests)) in
+    share_one _ _ c.tally.result _ c.first_of.result _ c.position.result c.tally.ensures p c.in-Some.key c.with_key.result c.in-Some.is
+    c.with_key.ensures c.first_of.ensures c.take_these.ensures
 
-pub returns : goal.returns
-returns c =
-    let first-of2 = c.first_of-2 in
-    let first-holding = c.first_holding-key in
-    let tally = c.tally-counts in
-    share_none _ _ tally.result _ first-holding.result first-of2.result _ tally.ensures first-holding.ensures
-    c.if-key-lt257.false first-of2.ensures c.take_these-2.ensures
+pub returns-in-None : goal.returns-in-None
+returns-in-None c =
+    let p : c.position.result ≡ position (λ x. leb c.args.per x) c.tally.result =
+    position_from_yields_List (λ x. leb c.args.per x) _ _ _ c.position.ensures.ran (YieldsList-from_slice c.tally.result cc)
+    (λ x b q k. search (rules, tests)) in
+    share_none _ _ c.tally.result _ c.first_of-in-None.result _ c.position.result c.tally.ensures p c.in-None.is
+    c.first_of-in-None.ensures c.take_these-in-None.ensures

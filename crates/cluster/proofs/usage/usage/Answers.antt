@@ -1,32 +1,23 @@
 -- What is left to show of `usage`.
-use Rattle.cluster.specs.UsageSteps.{usage_turn, usage_end}
-use Rattle.laws.specs.Sums.{sum_over}
-use Rattle.model.specs.Job.{no_job}
-use Rattle.rows.specs.Job.{jobs_of}
-use mathlib.Core.Path.{refl, ap, ◌∙◌}
-use native.Mathlib.Omega.{arith}
-use Prim.Native.Nat.{min}
+use Rattle.std.proofs.Common.{◌∙◌, take, length-take, arith, rules, tests}
+use Rattle.std.proofs.lemmas.Iterator.{YieldsList-from_slice, YieldsList-from_map}
+use Rattle.std.proofs.lemmas.Iterator.Adapters.{at_most_from_yields_List, fits_from_length}
+use Rattle.std.proofs.lemmas.Iterator.Consumers.{YieldsList-at, sum_by_from_yields_List}
+use Rattle.cluster.specs.Usage.{charge_to}
+use Rattle.cluster.specs.UsageLaws.{usage_sum}
 use Rattle.cluster.proofs.usage.usage.Goals as goal
 
-pub loop-i-init : goal.loop-i-init
-unfolding sum_over
-loop-i-init c = (omega arith, omega arith, omega arith, refl)
-
-pub loop-i-preserved : goal.loop-i-preserved
-loop-i-preserved c =
-    let here = c.loop-i in
-    let start = c.args in (
-      omega arith,
-      omega arith,
-      omega arith,
-      usage_turn (jobs_of start.jobs.now) start.tenant here.i here.sum c.charge_to.result no_job
-          (omega arith) here.invariant.3 (rw (← c.read_job.ensures) c.charge_to.ensures),
-    )
+pub sum-requires-clause-fits : goal.sum-requires-clause-fits
+sum-requires-clause-fits c =
+    fits_from_length _ _ 128 _
+    (at_most_from_yields_List (YieldsList-at c.map.ensures.source (YieldsList-from_slice (take c.min.result c.args.jobs.now) (cc)))
+    (omega (arith, length-take c.min.result c.args.jobs.now)))
+    c.map.ensures.closure (omega arith) (λ x r q k. search (rules, tests))
 
 pub returns : goal.returns
 returns c =
-    let here = c.loop-i in
-    let lesser = c.lesser-m in
-    let start = c.args in
-    here.invariant.3 ∙ usage_end (jobs_of start.jobs.now) start.n start.tenant lesser.result here.i
-    (lesser.ensures ∙ ap (min _) c.job_places.ensures.0) (omega arith) (omega arith)
+    sum_by_from_yields_List (charge_to c.args.tenant) (take c.min.result c.args.jobs.now) c.map.result _ c.sum.ensures.ran
+    (YieldsList-from_map _ (charge_to c.args.tenant)
+    (YieldsList-at c.map.ensures.source (YieldsList-from_slice (take c.min.result c.args.jobs.now) (cc)))
+    c.map.ensures.closure (λ x r q k. search (rules, tests)))
+    ∙ rw c.min.ensures (usage_sum c.args.jobs.now c.args.n c.args.tenant c.told-jobs)

@@ -1,27 +1,24 @@
 -- What is left to show of `write_words`.
+use Rattle.std.proofs.Common.{◌≡◌, ◌+◌, ◌*◌, ◌≤◌, ◌∙◌, refl, length, arith, length-take-le, take}
+use Rattle.laws.specs.Tables.{take_least}
 use Rattle.decision_log.specs.Log.{words}
 use Rattle.decision_log.specs.WordsLaws.{words_turn, words_done}
-use native.Mathlib.Omega.{arith}
-use mathlib.Core.Path.{refl, ◌∙◌}
 use Rattle.decision_log.proofs.words.write_words.Goals as goal
 
 pub loop-i-init : goal.loop-i-init
 unfolding words
-loop-i-init c = (omega arith, omega arith, refl)
+loop-i-init c = refl
 
 pub loop-i-preserved : goal.loop-i-preserved
 loop-i-preserved c =
     let here = c.loop-i in
-    let start = c.args in (
-      omega arith,
-      omega arith,
-      c.put_words.ensures
-          ∙ words_turn start.table here.out start.out.now here.i _ (omega arith) (omega arith) here.invariant.2,
-    )
+    let part = take c.min.result c.args.table in
+    let room : 4 * here.i + 4 ≤ length c.args.out.now = omega (arith, length-take-le c.min.result c.args.table (omega arith)) in
+    c.put_words.ensures ∙ words_turn part here.out c.args.out.now here.i _ c.loop-i-test.true room here.invariant
 
 pub returns : goal.returns
 returns c =
     let here = c.loop-i in
-    let lesser = c.lesser-n in
-    let start = c.args in
-    words_done start.table here.out start.out.now start.count lesser.result here.i (omega arith) lesser.ensures (omega arith) here.invariant.2
+    let table = c.args.table in
+    let part : take c.min.result table ≡ take c.args.count table = rw c.min.ensures (take_least c.args.count 129 table (omega arith)) in
+    rw (← part) (words_done (take c.min.result table) here.out c.args.out.now here.i (omega arith) here.invariant)

@@ -1,19 +1,16 @@
 -- What is left to show of `settle`.
+use Rattle.std.proofs.Common.{ap, ◌∙◌}
 use Rattle.happen.specs.Happen.{whole_moment}
-use Rattle.engine.specs.Settle.{settled_idle}
-use Rattle.engine.specs.Lent.{settled_lent}
+use Rattle.pass.specs.Visit.{new_pass, new_turn}
+use Rattle.pass.specs.declared.visit.Pass.{Pass}
+use Rattle.engine.specs.Settle.{after_pass, settled, settled_idle, pass_of, starts_of, with_pass}
 use Rattle.engine.proofs.settle.settle.Goals as goal
 
-pub returns : goal.returns
-returns c =
-    let starts-of = c.starts_of-begun in
-    let pass_of = c.pass_of-pass in
-    let start = c.args in
-    settled_lent start.m start.gpus.now start.jobs.now start.room.now pass_of.new.gpus pass_of.new.jobs starts-of.new.jobs
-    starts-of.new.room pass_of.result starts-of.result c.with_pass-after.result pass_of.ensures
-    (starts-of.ensures start.gpus.now pass_of.new.gpus) c.with_pass-after.ensures
+pub returns-then-plan-eq0 : goal.returns-then-plan-eq0
+returns-then-plan-eq0 c = settled_idle (whole_moment c.args.m c.args.plan.now) c.if-plan-eq0.true
 
-pub returns-then-rest-eq0 : goal.returns-then-rest-eq0
-returns-then-rest-eq0 c =
-    let start = c.args in
-    settled_idle (whole_moment start.m start.gpus.now start.jobs.now start.room.now) c.if-rest-eq0.true
+pub returns : goal.returns
+unfolding settled pass_of starts_of with_pass new_pass new_turn
+returns c =
+    c.start_placed.ensures
+    ∙ ap (λ (q : Pass). after_pass c.args.plan.now q) (c.walk-pass.ensures ∙ rw (c.new_turn.ensures, c.new_line-line.ensures))

@@ -1,6 +1,5 @@
 -- What is left to show of `fullest_first`.
-use mathlib.Core.Path.{◌≡◌, ◌∙◌}
-use lib.ListN.{take}
+use Rattle.std.proofs.Common.{◌≡◌, ◌∙◌, take}
 use Rattle.eligible.specs.Chosen.{list_of}
 use Rattle.fit.specs.Best.{fullest_first}
 use Rattle.fit.specs.Cases.{node_by_node}
@@ -8,12 +7,8 @@ use Rattle.fit.proofs.best.fullest_first.Goals as goal
 
 pub returns : goal.returns
 returns c =
-    let sorted = c.sort_front-sorted in
-    let second = c.wide_keys-second in
-    let first = c.rank_keys-first in
-    let counts = c.tally-counts in
-    let start = c.args in
-    let e : take start.e.count sorted.result ≡ fullest_first start.nodes (list_of start.e) =
-    node_by_node start.nodes start.e.ids first.result second.result counts.result sorted.result start.e.count
-    counts.ensures first.ensures second.ensures sorted.ensures in
+    let sorted = c.sort_front-ids in
+    let e : take c.args.e.count sorted.result ≡ fullest_first c.args.nodes (list_of c.args.e) =
+    node_by_node c.args.nodes c.args.e.ids c.rank_keys-first.result c.wide_keys-second.result c.tally-counts.result sorted.result c.args.e.count
+    c.tally-counts.ensures c.rank_keys-first.ensures c.wide_keys-second.ensures sorted.ensures in
     c.first_of.ensures ∙ rw e

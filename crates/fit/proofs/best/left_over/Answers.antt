@@ -1,18 +1,9 @@
 -- What is left to show of `left_over`.
-use borrow.Author.Tests.{le-leb, lt-leb}
-use native.Mathlib.Omega.{arith}
+use Rattle.std.proofs.Common.{◌∙◌}
 use Rattle.fit.specs.Best.{left_over}
-use Rattle.fit.specs.Group.{counted}
+use Rattle.fit.specs.Cases.{less_or}
 use Rattle.fit.proofs.best.left_over.Goals as goal
-
-pub returns-then-count-n : goal.returns-then-count-n
-unfolding left_over
-returns-then-count-n c =
-    let start = c.args in
-    rw (le-leb start.count (counted start.counts.now start.k) (omega arith), c.counted_at-n.ensures)
 
 pub returns : goal.returns
 unfolding left_over
-returns c =
-    let start = c.args in
-    rw (lt-leb start.count (counted start.counts.now start.k) (omega arith))
+returns c = c.unwrap_or.ensures ∙ less_or c.checked_sub.result c.args.count c.counted_at.result 129 c.checked_sub.ensures ∙ rw c.counted_at.ensures

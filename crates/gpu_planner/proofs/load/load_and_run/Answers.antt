@@ -1,47 +1,34 @@
 -- What is left to show of `load_and_run`.
-use Rattle.std.proofs.Common.{sym, ◌∙◌}
-use Rattle.rows.specs.Job.{jobs_of}
-use Rattle.loader.specs.LoadLaws.{load_zeros}
-use Rattle.gpu_planner.specs.Load.{first_room, ran_lent, refused_lent}
-use Rattle.gpu_planner.specs.TopLaws.{first_top}
+use Rattle.std.proofs.Common.{refl, sym, ap, ◌∙◌}
+use Rattle.model.specs.declared.plan.Plan.{Plan}
+use Rattle.trace.specs.Answer.{Answer, accepted}
+use Rattle.loader.specs.Load.{load}
+use Rattle.gpu_planner.specs.Head.{refused_head}
+use Rattle.gpu_planner.specs.Run.{run_to, turns}
+use Rattle.gpu_planner.specs.Ran.{ran_loaded, ran_refused}
+use Rattle.gpu_planner.specs.TopLaws.{load_free}
 use Rattle.gpu_planner.proofs.load.load_and_run.Goals as goal
 
 pub run-requires : goal.run-requires
-run-requires c =
-    let write-arrivals = c.write_arrivals in
-    let lesser = c.lesser-n in
-    let load-tables = c.load_tables-loaded in
-    let pre = c.requires in
-    let jobs = jobs_of load-tables.new.jobs in
-    record { in_bounds = pre; free_from = first_top _ jobs lesser.result write-arrivals.ensures }
+run-requires c = record { in_bounds = c.requires; free_from = rw (c.from-jobs.ensures, c.load_plan-answer.ensures.plan_after) (load_free c.args.trace.now) }
 
-pub returns-then-is_accepted : goal.returns-then-is_accepted
-returns-then-is_accepted c =
-    let run = c.run in
-    let rest = c.first_rest in
-    let write-arrivals = c.write_arrivals in
-    let lesser = c.lesser-n in
-    let places = c.job_places in
-    let setting = c.setting_of-setting in
-    let if1 = c.if-is_accepted in
-    let is-accepted = c.is_accepted in
-    let loaded = c.load_tables-loaded in
-    let start = c.args in
-    let gpus = loaded.new.gpus in
-    let jobs = loaded.new.jobs in
-    let is = loaded.ensures ∙ load_zeros start.trace.now in
-    let accepted = sym is-accepted.ensures ∙ if1.true in
-    let n = rw setting.ensures at lesser.ensures in
-    let room = first_room _ (jobs_of jobs) loaded.result.loading.jobs lesser.result places.result places.ensures n write-arrivals.ensures in
-    let both = ran_lent start.trace.now start.words.now loaded.result _ _ _ gpus jobs is run.result write-arrivals.new.room rest.result _ accepted room
-    (rw setting.ensures at rest.ensures) run.ensures.value run.ensures.words_after in
+pub returns-then-is_ok : goal.returns-then-is_ok
+returns-then-is_ok c =
+    let l = load c.args.trace.now in
+    let ws = c.args.words.now in
+    let a = c.load_plan-answer.ensures.answer in
+    let p = c.load_plan-answer.ensures.plan_after in
+    let both = ran_loaded c.args.trace.now ws l refl (sym (ap (λ (x : Answer). accepted x) a) ∙ sym c.is_ok.ensures.value ∙ c.if-is_ok.true)
+    c.run.result c.run.new.words
+    (c.run.ensures.value ∙ ap (λ (x : Plan). (run_to turns x 0 0 ws).head) p)
+    (c.run.ensures.words_after ∙ ap (λ (x : Plan). (run_to turns x 0 0 ws).words) p) in
     record { value = both.0; words_after = both.1 }
 
-pub returns : goal.returns
-returns c =
-    let start = c.args in
-    let loaded = c.load_tables-loaded in
-    let is = loaded.ensures ∙ load_zeros start.trace.now in
-    let both = refused_lent start.trace.now start.words.now loaded.result _ _ _ loaded.new.gpus loaded.new.jobs is
-    c.refused.result (sym c.is_accepted.ensures ∙ c.if-is_accepted.false) c.refused.ensures in
+pub returns-else-is_ok : goal.returns-else-is_ok
+returns-else-is_ok c =
+    let l = load c.args.trace.now in
+    let ws = c.args.words.now in
+    let a = c.load_plan-answer.ensures.answer in
+    let both = ran_refused c.args.trace.now ws l refl (sym (ap (λ (x : Answer). accepted x) a) ∙ sym c.is_ok.ensures.value ∙ c.if-is_ok.false)
+    c.refused.result (c.refused.ensures ∙ ap (λ (x : Answer). refused_head x) a) in
     record { value = both.0; words_after = both.1 }

@@ -1,27 +1,18 @@
 -- What is left to show of `join_all`.
-use mathlib.Core.Path.{◌≡◌, ◌∙◌}
-use native.Mathlib.Omega.{arith}
-use lib.ListN.{length}
-use Rattle.line.specs.Turns.{joined_none, joined_next, joined_done}
+use Rattle.std.proofs.Common.{◌∙◌, take, arith}
+use Rattle.laws.specs.Tables.{take_least}
+use Rattle.line.specs.Turns.{joined_none, joined_next}
 use Rattle.line.proofs.join.join_all.Goals as goal
 
-pub loop-i-init : goal.loop-i-init
-loop-i-init c = (omega arith, omega arith, omega arith, joined_none _ _ _ _ c.args.ids)
-
-pub loop-i-preserved : goal.loop-i-preserved
-loop-i-preserved c =
-    let here = c.loop-i in
+pub loop-v-init : goal.loop-v-init
+loop-v-init c =
     let start = c.args in
-    let z : length start.ids ≡ 128 = here.invariant.2 in (
-      omega arith,
-      omega arith,
-      z,
-      c.join-next.ensures
-          ∙ rw (c.read_job-j.ensures, c.wide_id.ensures) (joined_next _ _ _ _ start.ids _ here.i (omega arith) here.invariant.3),
+    (rw c.min.ensures (take_least start.count 128 start.ids (omega arith)), joined_none _ _ _ _ start.ids)
+
+pub loop-v-preserved : goal.loop-v-preserved
+loop-v-preserved c =
+    let here = c.loop-v in (
+      here.invariant.0,
+      c.join-after.ensures
+          ∙ rw (c.read-j.ensures, c.from.ensures) (joined_next _ _ _ _ (take c.min.result c.args.ids) _ here.v-index (omega arith) here.invariant.1),
     )
-
-pub returns : goal.returns
-returns c =
-    let here = c.loop-i in
-    let start = c.args in
-    joined_done _ _ _ _ start.ids _ here.i start.count (omega arith) here.invariant.2 here.invariant.3

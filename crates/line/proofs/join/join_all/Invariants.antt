@@ -1,13 +1,8 @@
--- What the loops of `join_all` keep true.
-use mathlib.Core.Path.{◌≡◌}
-use Prim.Native.Nat.{◌≤◌, ◌-◌}
-use lib.ListN.{length, take}
-use Rattle.rows.specs.Job.{jobs_of}
+-- What the loop of `join_all` keeps true.
+use Rattle.std.proofs.Common.{◌≡◌, take}
 use Rattle.line.specs.Line.{joined_all}
 use Rattle.line.proofs.join.join_all.Given as goal
 
-abbrev pub invariant-loop-i : goal.invariant-loop-i
-invariant-loop-i l = (l.i ≤ l.n) × (l.n ≤ 128) × (length l.ids ≡ 128) × (l.after ≡ joined_all l.clock (jobs_of l.jobs) l.by l.initial.after (take l.i l.ids))
-
-abbrev pub decreases-loop-i : goal.decreases-loop-i
-decreases-loop-i l = l.n - l.i
+abbrev pub invariant-loop-v : goal.invariant-loop-v
+invariant-loop-v l =
+    (l.v-items ≡ take l.count l.fn.ids) × (l.after ≡ joined_all l.clock l.jobs l.by l.initial.after (take l.v-index l.v-items))

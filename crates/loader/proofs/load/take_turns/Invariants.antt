@@ -1,15 +1,8 @@
--- What the loops of `take_turns` keep true.
-use mathlib.Core.Path.{◌≡◌}
-use Prim.Native.Nat.{◌≤◌, ◌-◌}
-use lib.ListN.{length}
-use Rattle.loader.specs.Tables.{whole_tables}
+-- What the loop of `take_turns` keeps true.
+use Rattle.std.proofs.Common.{◌≡◌, ◌≤◌, ◌-◌, length}
 use Rattle.loader.specs.Load.{turns}
 use Rattle.loader.proofs.load.take_turns.Given as goal
 
-abbrev pub invariant-loop-i : goal.invariant-loop-i
-invariant-loop-i l =
-    (l.i ≤ l.n) × (l.at ≤ length l.trace) × (turns (l.n - l.i) l.trace l.at (whole_tables l.t l.sites l.quotas l.mosts l.gpus l.jobs) ≡ turns l.n l.trace 0
-    (whole_tables l.initial.t l.initial.sites l.initial.quotas l.initial.mosts l.initial.gpus l.initial.jobs))
-
-abbrev pub decreases-loop-i : goal.decreases-loop-i
-decreases-loop-i l = l.n - l.i
+abbrev pub invariant-loop-turn : goal.invariant-loop-turn
+invariant-loop-turn l =
+    (l.at ≤ length l.trace) × (turns (length l.trace - l._turn) l.trace l.at l.tables ≡ turns (length l.trace) l.trace 0 l.initial.tables)

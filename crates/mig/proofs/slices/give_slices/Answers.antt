@@ -1,43 +1,30 @@
 -- What is left to show of `give_slices`.
-use lib.Dec.{ltb}
-use mathlib.Core.Bool.{◌&&◌}
-use Rattle.mig.specs.Slices.{free_slice, free_on, given_slices}
-use Rattle.mig.specs.More.{those_start, put_left, put_turn, put_pass, put_end}
-use mathlib.Core.Path.{◌≡◌, ◌∙◌}
-use native.Mathlib.Omega.{arith}
+use Rattle.std.proofs.Common.{refl, sym, ap, ◌∙◌, set, arith, rules, tests}
+use Rattle.std.proofs.lemmas.Iterator.{YieldsList-from_range, YieldsList-from_take}
+use Rattle.std.proofs.lemmas.Iterator.Consumers.{YieldsList-at, YieldsList-from_filter, YieldsList-end}
+use Rattle.mig.specs.More.{put, put_snoc}
+use Rattle.mig.specs.Slices.{free_slice, slice_count, given_filtered}
 use Rattle.mig.proofs.slices.give_slices.Goals as goal
-use Rattle.mig.proofs.slices.give_slices.Goals.{then-both, else-both}
 
 pub loop-i-init : goal.loop-i-init
-loop-i-init c = (omega arith, rw those_start)
-
-pub returns : goal.returns
-unfolding free_on given_slices
-returns c =
-    let here = c.loop-i in
-    let slice-count = c.slice_count-n in
-    let start = c.args in
-    rw (
-      ← slice-count.ensures,
-      ← here.invariant.1,
-      ← put_end (free_slice start.g start.profile) slice-count.result start.owner here.i here.left here.owners (omega arith),
-    )
-
-pub overflow_sub-left : goal.overflow_sub-left
-overflow_sub-left c =
-    let told : (ltb 0 c.loop-i.left && free_slice c.args.g c.args.profile c.loop-i.i) ≡ c.both.result = cc in
-    put_left c.loop-i.left _ (told ∙ c.if-both.true)
+unfolding put
+loop-i-init c = (search rules, search rules, refl)
 
 pub loop-i-preserved : goal.loop-i-preserved
-loop-i-preserved c =
-    let here = c.loop-i in
-    let start = c.args in
-    let told : (ltb 0 here.left && free_slice start.g start.profile here.i) ≡ c.both.result = cc in (
-      omega arith,
-      elim c.if-both.branch [
-        | then-both w ↦ rw (w.left-is, w.owners-is) (put_turn (free_slice start.g start.profile) c.slice_count-n.result start.owner here.i here.left
-            here.owners (omega arith) (told ∙ w.if-both.true) ∙ here.invariant.1)
-        | else-both w ↦ rw (w.left-is, w.owners-is) (put_pass (free_slice start.g start.profile) c.slice_count-n.result start.owner here.i here.left
-            here.owners (omega arith) (told ∙ w.if-both.false) ∙ here.invariant.1)
-      ],
-    )
+loop-i-preserved c = (
+  search rules,
+  search rules,
+  c.write.ensures ∙ ap (λ l. set l c.in-Some.i c.args.owner) c.loop-i.invariant.2
+      ∙ sym (put_snoc c.args.g.owners c.loop-i.yielded c.in-Some.i c.args.owner),
+)
+
+pub returns : goal.returns
+returns c =
+    let free = free_slice c.args.g c.args.profile in
+    let n = slice_count c.args.g in
+    given_filtered c.args.g c.args.profile c.args.most c.args.owner c.loop-i.owners c.loop-i.yielded c.loop-i.invariant.2
+    (YieldsList-end (YieldsList-at c.into_iter-i-iterator.ensures.into_iter_gives
+    (YieldsList-from_take c.args.most (YieldsList-at c.take-i-items.ensures.source
+    (YieldsList-from_filter _ free (YieldsList-at c.filter-free.ensures.source (YieldsList-from_range 0 n n (cc) (omega arith)))
+    c.filter-free.ensures.closure (λ x b q k. search (rules, tests)))) c.take-i-items.ensures.count))
+    c.loop-i.yielded c.loop-i.i-iterator c.loop-i.yielded_by _ _ c.in-None.is c.next.ensures.steps).0

@@ -1,36 +1,25 @@
 -- What is left to show of `free_in_all`.
-use Rattle.mig.specs.TableSteps.{free_count, free_turn, free_end}
-use Rattle.laws.specs.Sums.{sum_over}
-use Rattle.model.specs.Gpu.{no_gpu}
-use Rattle.rows.specs.Gpu.{gpus_of}
-use mathlib.Core.Path.{refl, ap, ◌∙◌}
-use native.Mathlib.Omega.{arith}
-use Prim.Native.Nat.{◌≤◌, min}
+use Rattle.std.proofs.Common.{◌≡◌, ◌∙◌, take, length-take, arith, rules, tests}
+use Rattle.std.proofs.lemmas.Iterator.{YieldsList-from_slice, YieldsList-from_map}
+use Rattle.std.proofs.lemmas.Iterator.Adapters.{at_most_from_yields_List, fits_from_length}
+use Rattle.std.proofs.lemmas.Iterator.Consumers.{YieldsList-at, sum_by_from_yields_List}
+use Rattle.mig.specs.Slices.{free_slices}
+use Rattle.mig.specs.TableSteps.{free_most, free_sum}
 use Rattle.mig.proofs.table.free_in_all.Goals as goal
 
-pub loop-i-init : goal.loop-i-init
-unfolding sum_over
-loop-i-init c = (omega arith, omega arith, omega arith, refl)
-
-pub overflow_add-sum : goal.overflow_add-sum
-overflow_add-sum c = let h : c.free_slices-sum.result ≤ 7 = free_count _ _ c.free_slices-sum.ensures in record { fits = omega arith }
-
-pub loop-i-preserved : goal.loop-i-preserved
-loop-i-preserved c =
-    let here = c.loop-i in
-    let start = c.args in
-    let h : c.free_slices-sum.result ≤ 7 = free_count _ _ c.free_slices-sum.ensures in (
-      omega arith,
-      omega arith,
-      omega arith,
-      free_turn (gpus_of start.gpus.now) start.profile here.i here.sum c.free_slices-sum.result
-          no_gpu (omega arith) here.invariant.3 (rw (← c.read_gpu.ensures) c.free_slices-sum.ensures),
-    )
+pub sum-requires-clause-fits : goal.sum-requires-clause-fits
+sum-requires-clause-fits c =
+    fits_from_length _ _ 128 _
+    (at_most_from_yields_List (YieldsList-at c.map.ensures.source (YieldsList-from_slice (take c.min.result c.args.gpus.now) (cc)))
+    (omega (arith, length-take c.min.result c.args.gpus.now)))
+    c.map.ensures.closure (omega arith)
+    (λ x r q k. let told : r ≡ free_slices x.now c.args.profile = search (rules, tests) in
+    (search (rules, tests), omega (arith, free_most x.now c.args.profile)))
 
 pub returns : goal.returns
 returns c =
-    let here = c.loop-i in
-    let lesser = c.lesser-m in
-    let start = c.args in
-    here.invariant.3 ∙ free_end (gpus_of start.gpus.now) start.n start.profile lesser.result here.i
-    (lesser.ensures ∙ ap (min _) c.gpu_places.ensures.0) (omega arith) (omega arith)
+    sum_by_from_yields_List (λ g. free_slices g c.args.profile) (take c.min.result c.args.gpus.now) c.map.result _ c.sum.ensures.ran
+    (YieldsList-from_map _ (λ g. free_slices g c.args.profile)
+    (YieldsList-at c.map.ensures.source (YieldsList-from_slice (take c.min.result c.args.gpus.now) (cc)))
+    c.map.ensures.closure (λ x r q k. search (rules, tests)))
+    ∙ rw c.min.ensures (free_sum c.args.gpus.now c.args.n c.args.profile c.told-gpus)

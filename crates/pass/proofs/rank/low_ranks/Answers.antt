@@ -1,27 +1,15 @@
 -- What is left to show of `low_ranks`.
-use mathlib.Core.Path.{◌≡◌, refl, ◌∙◌}
-use Prim.Native.Nat.{◌+◌, ◌≤◌}
-use native.Mathlib.Omega.{arith}
-use lib.ListN.{length}
-use Rattle.laws.specs.Search.{those}
-use Rattle.pass.specs.Rank.{low_at, low_take, low_skip, low_end}
+use Rattle.std.proofs.Common.{◌∙◌, leb, take, arith, rules}
+use Rattle.std.proofs.lemmas.Iterator.{YieldsList-from_slice}
+use Rattle.std.proofs.lemmas.Iterator.Consumers.{YieldsList-from_filter, count_from_yields_List}
+use borrow.Author.Tests.{tests}
+use Rattle.pass.specs.Rank.{low_ranks, low_counted}
 use Rattle.pass.proofs.rank.low_ranks.Goals as goal
-use Rattle.pass.proofs.rank.low_ranks.Goals.{else-ranks-i, then-ranks-i}
-
-pub loop-i-init : goal.loop-i-init
-unfolding those
-loop-i-init c = (omega arith, c.lesser-m.ensures, omega arith, refl)
 
 pub returns : goal.returns
+unfolding low_ranks
 returns c =
-    let here = c.loop-i in
-    let start = c.args in
-    here.invariant.3 ∙ low_end start.ranks.now start.n start.priority c.lesser-m.result here.i here.invariant.1 (omega arith)
-
-pub loop-i-preserved : goal.loop-i-preserved
-loop-i-preserved c =
-    let here = c.loop-i in
-    let start = c.args in
-    let f : (c.if-ranks-i.k ≤ here.i + 1) × (c.if-ranks-i.k ≡ length (those (low_at start.ranks.now start.priority) (here.i + 1) 0)) =
-    (elim c.if-ranks-i.branch [ then-ranks-i w ↦ (omega arith, w.k-is ∙ low_take start.ranks.now start.priority here.i here.k (omega arith) w.if-ranks-i.true here.invariant.3) | else-ranks-i w ↦ (omega arith, w.k-is ∙ low_skip start.ranks.now start.priority here.i here.k (omega arith) w.if-ranks-i.false here.invariant.3) ]) in
-    (omega arith, here.invariant.1, f.0, f.1)
+    let ranks = c.args.ranks.now in
+    count_from_yields_List c.filter.result _ c.count.ensures.ran
+    (YieldsList-from_filter _ (λ r. leb r c.args.priority) (YieldsList-from_slice (take c.min.result ranks) cc) c.filter.ensures.closure (λ x r q k. search (rules, tests)))
+    ∙ low_counted ranks c.args.priority c.min.result (omega arith) ∙ rw c.min.ensures

@@ -1,8 +1,5 @@
 -- What is left to show of `is_short`.
-use mathlib.Core.Path.{ap, ◌∙◌}
-use mathlib.Core.Bool.{not}
-use Rattle.rows.specs.Gpu.{gpus_of}
-use Rattle.rows.specs.Job.{jobs_of}
+use Rattle.std.proofs.Common.{◌∙◌}
 use Rattle.eligible.specs.Chosen.{list_of}
 use Rattle.eligible.specs.Turns.{held}
 use Rattle.pass.specs.Stay.{short_looked}
@@ -11,18 +8,14 @@ use Rattle.pass.proofs.stay.is_short.Goals as goal
 
 pub returns-then-low_ranks-ask : goal.returns-then-low_ranks-ask
 returns-then-low_ranks-ask c =
-    let low-ranks = c.low_ranks in
     let start = c.args in
-    let pre = c.requires in
-    low_short start.setting (gpus_of start.gpus.now) (jobs_of start.jobs.now) start.ask start.ranks.now low-ranks.result pre
-    low-ranks.ensures c.if-low_ranks-ask.true
+    low_short start.setting start.gpus.now start.jobs.now start.ask start.ranks.now c.low_ranks.result c.requires
+    c.low_ranks.ensures c.if-low_ranks-ask.true
 
-pub returns : goal.returns
-returns c =
-    let why-not = c.why_not in
-    let keys-for = c.keys_for in
-    let within-reach = c.within_reach-e in
+pub returns-else-low_ranks-ask : goal.returns-else-low_ranks-ask
+returns-else-low_ranks-ask c =
+    let found = c.within_reach-found in
     let start = c.args in
-    ap not c.is_enough.ensures ∙ short_looked start.setting (gpus_of start.gpus.now) (jobs_of start.jobs.now) start.ask
-    why-not.result keys-for.result (list_of within-reach.result) why-not.ensures (keys-for.ensures (list_of within-reach.result))
-    (held _ _ within-reach.ensures).0
+    c.is_some.ensures ∙ short_looked start.setting start.gpus.now start.jobs.now start.ask
+    c.why_not.result c.keys_for.result (list_of found.result) c.why_not.ensures (c.keys_for.ensures (list_of found.result))
+    (held _ _ found.ensures).0

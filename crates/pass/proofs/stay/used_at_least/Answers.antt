@@ -1,32 +1,30 @@
 -- What is left to show of `used_at_least`.
-use mathlib.Core.Path.{refl, ap, ◌∙◌}
-use Prim.Native.Nat.{min}
-use native.Mathlib.Omega.{arith}
+use Rattle.std.proofs.Common.{◌≤◌, refl, ◌∙◌, length, take, arith, length-take, take_all}
 use Rattle.laws.specs.Sums.{sum_over}
-use Rattle.rows.specs.Job.{jobs_of}
-use Rattle.pass.specs.Stay.{used_turn, used_end}
+use Rattle.laws.specs.Tables.{take_least}
+use Rattle.pass.specs.Stay.{used_at_least, used_turn}
 use Rattle.pass.proofs.stay.used_at_least.Goals as goal
 
-pub loop-i-init : goal.loop-i-init
+pub loop-j-init : goal.loop-j-init
 unfolding sum_over
-loop-i-init c = (omega arith, omega arith, omega arith, refl)
+loop-j-init c = (rw c.min.ensures (take_least c.args.n 128 c.args.jobs.now (omega arith)), omega arith, refl)
 
-pub loop-i-preserved : goal.loop-i-preserved
-loop-i-preserved c =
-    let read-job = c.read_job in
-    let here = c.loop-i in
-    let start = c.args in (
+pub overflow_add-sum : goal.overflow_add-sum
+overflow_add-sum c =
+    let few : length (take c.min.result c.args.jobs.now) ≤ 128 = omega (arith, length-take c.min.result c.args.jobs.now) in
+    record { fits = omega arith }
+
+pub loop-j-preserved : goal.loop-j-preserved
+loop-j-preserved c =
+    let here = c.loop-j in (
+      here.invariant.0,
       omega arith,
-      omega arith,
-      omega arith,
-      used_turn start.aware (jobs_of start.jobs.now) start.ask here.i here.sum
-          c.kept_charge.result read-job.result (omega arith) here.invariant.3 read-job.ensures c.kept_charge.ensures,
+      used_turn c.args.aware (take c.min.result c.args.jobs.now) c.args.ask here.j-index here.sum _ _
+          c.loop-j-test.true here.invariant.2 (c.from-sum.ensures ∙ c.kept_charge.ensures),
     )
 
 pub returns : goal.returns
+unfolding used_at_least
 returns c =
-    let here = c.loop-i in
-    let lesser = c.lesser-m in
-    let start = c.args in
-    here.invariant.3 ∙ used_end start.aware (jobs_of start.jobs.now) start.ask start.n lesser.result here.i
-    (lesser.ensures ∙ ap (min _) c.job_places.ensures.0) (omega arith) (omega arith)
+    let here = c.loop-j in
+    here.invariant.2 ∙ rw (take_all here.j-index (take c.min.result c.args.jobs.now) (omega arith), here.invariant.0)

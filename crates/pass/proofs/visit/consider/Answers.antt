@@ -1,22 +1,20 @@
 -- What is left to show of `consider`.
-use mathlib.Core.Path.{◌∙◌}
+use Rattle.std.proofs.Common.{◌∙◌, None, Some, refl}
 use Rattle.resource.specs.Allocate.{whole_allocation}
 use Rattle.pass.specs.Visit.{considered_given, considered_then, considered_none}
 use Rattle.pass.proofs.visit.consider.Goals as goal
 
-pub returns-then-ask-eq0 : goal.returns-then-ask-eq0
-returns-then-ask-eq0 c =
-    let if1 = c.if-got in
-    let allocate = c.allocate-got in
-    considered_then _ _ _ _ _ (allocate.ensures ∙ rw c.plus_one.ensures) _ _ if1.false c.if-ask-eq0.true c.preempt_for.ensures
+pub returns-in-Some : goal.returns-in-Some
+returns-in-Some c =
+    let rows = c.allocate.new.gpus in
+    considered_given _ _ _ _ (whole_allocation (Some c.in-Some.got) rows) (c.in-Some.ensures ∙ rw c.plus_one.ensures) _ _ _ refl
+    (c.place_as.ensures rows)
 
-pub returns-then-got : goal.returns-then-got
-returns-then-got c =
-    let allocate = c.allocate-got in
-    considered_given _ _ _ _ _ (allocate.ensures ∙ rw c.plus_one.ensures) _ _ _ c.if-got.true (c.place_as.ensures allocate.new.gpus)
+pub returns-in-None : goal.returns-in-None
+returns-in-None c =
+    considered_then _ _ _ _ (whole_allocation None c.allocate.new.gpus) (c.in-None.ensures ∙ rw c.plus_one.ensures) _ _ refl c.if-j-eq0.true
+    c.preempt_for.ensures
 
-pub returns : goal.returns
-returns c =
-    let allocate = c.allocate-got in
-    considered_none _ _ _ _ (whole_allocation allocate.result allocate.new.gpus) (allocate.ensures ∙ rw c.plus_one.ensures) _
-    c.if-got.false c.if-ask-eq0.false
+pub returns-in-None-2 : goal.returns-in-None-2
+returns-in-None-2 c =
+    considered_none _ _ _ _ (whole_allocation None c.allocate.new.gpus) (c.in-None-2.ensures ∙ rw c.plus_one.ensures) _ refl c.if-j-eq0.false

@@ -4,6 +4,4 @@ use Rattle.pass.proofs.visit.place_as.Goals as goal
 
 pub returns : goal.returns
 unfolding placed_as
-returns c =
-    let wide-id = c.wide_id in
-    λ gpus. rw (c.onward.ensures, c.put_placing-placings.ensures, c.write_job.ensures, c.place.ensures, wide-id.ensures)
+returns c = λ gpus. rw (c.onward.ensures, c.put.ensures, c.write.ensures, c.place.ensures, c.from.ensures)

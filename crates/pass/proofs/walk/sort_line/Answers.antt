@@ -4,4 +4,4 @@ use Rattle.pass.proofs.walk.sort_line.Goals as goal
 
 pub returns : goal.returns
 unfolding sorted
-returns c = λ gpus. rw (c.with_queue-after.ensures, c.sort_queue-ordered.ensures)
+returns c = λ gpus. rw c.sort_queue-queue.ensures

@@ -1,47 +1,43 @@
 -- What is left to show of `visit_all`.
-use mathlib.Core.Path.{◌≡◌, sym, ◌∙◌}
-use Prim.Native.Nat.{◌-◌}
-use native.Mathlib.Omega.{arith}
+use Rattle.std.proofs.Common.{◌≡◌, ◌-◌, ◌<◌, sym, ◌∙◌, min, get_or, take, arith, length-take, get_or-take}
 use Rattle.laws.specs.Loop.{through_step, through_end}
 use Rattle.pass.specs.Visit.{whole_pass}
 use Rattle.pass.specs.Walk.{visit_at}
 use Rattle.pass.specs.StayLaws.{skip_step}
 use Rattle.pass.proofs.walk.visit_all.Goals as goal
+use Rattle.pass.proofs.walk.visit_all.Goals.{then-not-stays, else-not-stays}
 
-pub loop-i-init : goal.loop-i-init
-loop-i-init c =
-    let lesser = c.lesser-m in
-    let e : lesser.result - 0 ≡ lesser.result = omega arith in (omega arith, omega arith, c.ranks_of-ranks.ensures, rw e)
+pub loop-id-init : goal.loop-id-init
+loop-id-init c =
+    let n = min c.args.turn.line.waiting 128 in
+    let e : n - 0 ≡ n = omega arith in
+    record { ranked = rw c.from-n.ensures at c.ranks_of-ranks.ensures; walked = rw e }
 
-pub loop-i-preserved-then-stays : goal.loop-i-preserved-then-stays
-loop-i-preserved-then-stays c =
-    let here = c.loop-i in
-    let lesser = c.lesser-m in
-    let start = c.args in (
-      omega arith,
-      omega arith,
-      here.invariant.2,
-      skip_step start.setting start.clock start.turn.line.queue (whole_pass here.work here.gpus here.jobs) lesser.result
-          here.i (omega arith) (sym c.stays.ensures ∙ c.if-stays.true) ∙ here.invariant.3,
-    )
-
-pub loop-i-preserved : goal.loop-i-preserved
-loop-i-preserved c =
-    let here = c.loop-i in
-    let lesser = c.lesser-m in
-    let start = c.args in (
-      omega arith,
-      omega arith,
-      c.ranks_of-fresh.ensures,
-      rw c.visit-after.ensures
-          (through_step (visit_at start.setting start.clock start.turn.line.queue) (whole_pass here.work here.gpus here.jobs)
-          lesser.result here.i (omega arith) ∙ here.invariant.3),
-    )
+pub loop-id-preserved : goal.loop-id-preserved
+loop-id-preserved c =
+    let here = c.loop-id in
+    let start = c.args in
+    let queue = start.turn.line.queue in
+    let n = min start.turn.line.waiting 128 in
+    let within : here.id-index < n = omega (arith, length-take c.min.result queue) in
+    let same : get_or (take c.min.result queue) here.id-index 0 ≡ get_or queue here.id-index 0 = get_or-take c.min.result queue here.id-index 0 (omega arith) in
+    elim c.if-not-stays.branch [
+      | then-not-stays w ↦ rw (w.gpus-is, w.jobs-is, w.work-is, w.ranks-is) record {
+        ranked = rw c.from-n.ensures at w.ranks_of-ranks-then-not-stays.ensures;
+        walked = rw (w.visit-work.ensures, same)
+            (through_step (visit_at start.setting start.clock queue) (whole_pass here.work here.gpus here.jobs) n here.id-index within ∙ here.invariant.walked);
+      }
+      | else-not-stays w ↦ rw (w.gpus-is, w.jobs-is, w.work-is, w.ranks-is) record {
+        ranked = here.invariant.ranked;
+        walked = skip_step start.setting start.clock queue (whole_pass here.work here.gpus here.jobs) n here.id-index within
+            (sym (rw same at c.stays.ensures) ∙ w.if-not-stays.false) ∙ here.invariant.walked;
+      }
+    ]
 
 pub returns : goal.returns
 returns c =
-    let here = c.loop-i in
-    let lesser = c.lesser-m in
+    let here = c.loop-id in
     let start = c.args in
-    through_end (visit_at start.setting start.clock start.turn.line.queue) (whole_pass here.work here.gpus here.jobs)
-    lesser.result here.i (omega arith) ∙ here.invariant.3 ∙ rw lesser.ensures
+    let queue = start.turn.line.queue in
+    through_end (visit_at start.setting start.clock queue) (whole_pass here.work here.gpus here.jobs)
+    (min start.turn.line.waiting 128) here.id-index (omega (arith, length-take c.min.result queue)) ∙ here.invariant.walked

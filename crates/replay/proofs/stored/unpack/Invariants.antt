@@ -1,9 +1,9 @@
--- The loop of `unpack`: the place in the file.
-use Rattle.std.proofs.Common.{◌≤◌, ◌-◌}
+-- The loop of `unpack`: what is left of the file.
+use Rattle.std.proofs.Common.{◌≤◌, length}
 use Rattle.replay.proofs.stored.unpack.Given as goal
 
-abbrev pub invariant-loop-a : goal.invariant-loop-a
-invariant-loop-a l = (l.at ≤ l.a) × (l.a ≤ l.n)
+abbrev pub invariant-loop-left : goal.invariant-loop-left
+invariant-loop-left l = length l.left ≤ length l.fn.file
 
-abbrev pub decreases-loop-a : goal.decreases-loop-a
-decreases-loop-a l = l.n - l.a
+abbrev pub decreases-loop-left : goal.decreases-loop-left
+decreases-loop-left l = length l.left

@@ -1,9 +1,6 @@
--- The loop of `put_decisions`: so many decisions are told.
-use Rattle.std.proofs.Common.{◌≤◌, ◌-◌}
+-- The loop of `put_decisions`: the place stays within the bytes.
+use Rattle.std.proofs.Common.{◌≤◌, length}
 use Rattle.text.proofs.told.put_decisions.Given as goal
 
-abbrev pub invariant-loop-i : goal.invariant-loop-i
-invariant-loop-i l = l.i ≤ l.n
-
-abbrev pub decreases-loop-i : goal.decreases-loop-i
-decreases-loop-i l = l.n - l.i
+abbrev pub invariant-loop-decision : goal.invariant-loop-decision
+invariant-loop-decision l = l.to ≤ length l.out

@@ -1,9 +1,0 @@
--- The loop of `digest`: so many bytes are taken in.
-use Rattle.std.proofs.Common.{◌≤◌, ◌-◌, length}
-use Rattle.show.proofs.digest.digest.Given as goal
-
-abbrev pub invariant-loop-i : goal.invariant-loop-i
-invariant-loop-i l = l.i ≤ length l.s
-
-abbrev pub decreases-loop-i : goal.decreases-loop-i
-decreases-loop-i l = length l.s - l.i

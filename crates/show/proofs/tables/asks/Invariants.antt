@@ -1,9 +1,0 @@
--- The loop of `asks`: so many entries are shown.
-use Rattle.std.proofs.Common.{◌≤◌, ◌-◌}
-use Rattle.show.proofs.tables.asks.Given as goal
-
-abbrev pub invariant-loop-i : goal.invariant-loop-i
-invariant-loop-i l = l.i ≤ l.n
-
-abbrev pub decreases-loop-i : goal.decreases-loop-i
-decreases-loop-i l = l.n - l.i

@@ -1,9 +1,0 @@
--- The loop of `profiles`: so many entries are looked at.
-use Rattle.std.proofs.Common.{◌≤◌, ◌-◌}
-use Rattle.show.proofs.tables.profiles.Given as goal
-
-abbrev pub invariant-loop-i : goal.invariant-loop-i
-invariant-loop-i l = l.i ≤ 16
-
-abbrev pub decreases-loop-i : goal.decreases-loop-i
-decreases-loop-i l = 16 - l.i

@@ -1,9 +1,0 @@
--- The loop of `quotas`: so many entries are looked at.
-use Rattle.std.proofs.Common.{◌≤◌, ◌-◌}
-use Rattle.show.proofs.tables.quotas.Given as goal
-
-abbrev pub invariant-loop-i : goal.invariant-loop-i
-invariant-loop-i l = l.i ≤ 32
-
-abbrev pub decreases-loop-i : goal.decreases-loop-i
-decreases-loop-i l = 32 - l.i

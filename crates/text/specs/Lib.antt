@@ -1,2 +1,0 @@
--- The laws of a place in lent bytes.
-pub mod Places
