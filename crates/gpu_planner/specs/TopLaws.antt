@@ -42,6 +42,11 @@ arrivals_free jobs n i t h =
     let few : length l ≤ i = omega (arith, arrivals_length 0 (take n jobs), length-take n jobs) in
     ap used (pad_past Sizes.events empty_event l i empty_event few h)
 
+-- of the plan of loaded tables
+pub plan_free : (t : Tables) → free_from t.setting.jobs (plan_of t).events
+unfolding plan_of
+plan_free t = arrivals_free t.jobs t.setting.jobs
+
 loaded_free : (r : Result Tables Refusal) → free_from (loaded r).plan.setting.jobs (loaded r).plan.events
 unfolding loaded refused plan_of empty_plan
 loaded_free (Ok t) = arrivals_free t.jobs t.setting.jobs

@@ -10,6 +10,7 @@ use model::plan::Plan;
 use model::setting::Setting;
 use model::sizes::{EVENTS, GPUS, JOBS};
 use model::totals::Totals;
+use std::array;
 
 #[repr(C)]
 #[derive(Clone, Copy)]
@@ -174,8 +175,8 @@ pub fn held_plan(p: Plan) -> HeldPlan
         clock,
         totals,
     } = p;
-    let jobs = jobs.map(held_job);
-    let events = events.map(held_event);
+    let jobs = array::from_fn(|i| held_job(jobs[i]));
+    let events = array::from_fn(|i| held_event(events[i]));
     HeldPlan {
         setting,
         gpus,
@@ -204,8 +205,8 @@ pub fn plan_in(h: HeldPlan) -> Plan
         clock,
         totals,
     } = h;
-    let jobs = jobs.map(job_in);
-    let events = events.map(event_in);
+    let jobs = array::from_fn(|i| job_in(jobs[i]));
+    let events = array::from_fn(|i| event_in(events[i]));
     Plan {
         setting,
         gpus,

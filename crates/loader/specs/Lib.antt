@@ -6,3 +6,4 @@ pub mod Arrivals
 pub mod ArrivalLaws
 pub mod Load
 pub mod LoadLaws
+pub mod FillLaws

@@ -13,7 +13,7 @@ use Rattle.trace.specs.declared.record.Record.{Record}
 use Rattle.trace.specs.declared.record.Record.TheVariants as R
 use Rattle.loader.specs.Fault.{fault_of}
 use Rattle.loader.specs.Tables.{empty_tables, put_record}
-use Rattle.loader.specs.Arrivals.{arrivals}
+use Rattle.loader.specs.Arrivals.{arrivals, arrivals_over}
 use Rattle.loader.specs.declared.loading.Tables.{Tables}
 use Rattle.loader.specs.declared.load.Loaded.{Loaded}
 
@@ -83,6 +83,20 @@ loaded (Err e) = refused (Err e)
 -- The load of a trace: into tables that hold nothing yet.
 unfoldable pub load : List ℕ → Loaded
 load trace = loaded (load_into trace empty_tables)
+
+-- The tables over a plan: their arrivals are written over its room, and the rest of it stays.
+unfoldable pub filled : Plan → Tables → Plan
+filled p t = record {
+  setting = t.setting;
+  gpus = t.gpus;
+  jobs = t.jobs;
+  queue = p.queue;
+  waiting = p.waiting;
+  events = arrivals_over p.events t.jobs t.setting.jobs;
+  next = t.setting.jobs;
+  clock = p.clock;
+  totals = p.totals;
+}
 
 -- ---- what is answered beside the tables, which are lent
 

@@ -1,15 +1,14 @@
 // Loading a trace: its records left to right, until the end record or the first refusal.
 
 ghost use Rattle.std.specs.Prelude.{◌≡◌, ◌≤◌, length};
-ghost use Rattle.loader.specs.Load.{plan_of, turn_of, tables_of, follow, turn, turns, load_into, load};
+ghost use Rattle.model.specs.Plan.{empty_plan};
+ghost use Rattle.loader.specs.Load.{plan_of, filled, turn_of, tables_of, follow, turn, turns, load_into, load};
 
 use crate::arrivals::write_arrivals;
 use crate::fault::fault_of;
 use crate::loading::{Tables, empty_tables, put_record};
-use model::event::Event;
 use model::plan::{Plan, empty_plan};
-use model::sizes::{EVENTS, TRACE_BYTES};
-use tables::Entry;
+use model::sizes::TRACE_BYTES;
 use trace::answer::{Fault, Refusal, further};
 use trace::record::{Record, read_record};
 
@@ -76,7 +75,7 @@ fn take_turns(trace: &[u8], tables: &mut Tables) -> Result<(), Refusal>
 
 // Loads a trace into tables, which hold nothing yet.
 #[tactic(auto, unfolding(crate::specs::Load::load_into))]
-fn load_tables(trace: &[u8], tables: &mut Tables) -> Result<(), Refusal>
+pub fn load_tables(trace: &[u8], tables: &mut Tables) -> Result<(), Refusal>
     ensures { tables_of result tables.new ≡ load_into trace.now tables.old }
 {
     if TRACE_BYTES < trace.len() {
@@ -89,20 +88,26 @@ fn load_tables(trace: &[u8], tables: &mut Tables) -> Result<(), Refusal>
     }
 }
 
-#[tactic(auto, unfolding(crate::specs::Load::plan_of, model::specs::Plan::empty_plan), using(crate::specs::ArrivalLaws::over_empty))]
+// The tables over a plan, with the arrivals over its room.
+#[tactic(auto, unfolding(crate::specs::Load::filled), using(crate::specs::FillLaws::filled_empty))]
+pub fn fill(plan: &mut Plan, tables: &Tables)
+    ensures plan_after { plan.new ≡ filled plan.old tables.now }
+    ensures over_empty { plan.old ≡ empty_plan → plan.new ≡ plan_of tables.now }
+{
+    let jobs = usize::from(tables.setting.jobs);
+    write_arrivals(&mut plan.events, &tables.jobs, jobs);
+    plan.setting = tables.setting;
+    plan.gpus = tables.gpus;
+    plan.jobs = tables.jobs;
+    plan.next = jobs as u64;
+}
+
 fn plan_of(tables: &Tables) -> Plan
     ensures { result ≡ plan_of tables.now }
 {
-    let mut events = [Event::none(); EVENTS];
-    write_arrivals(&mut events, &tables.jobs, usize::from(tables.setting.jobs));
-    Plan {
-        setting: tables.setting,
-        gpus: tables.gpus,
-        jobs: tables.jobs,
-        events,
-        next: u64::from(tables.setting.jobs),
-        ..empty_plan()
-    }
+    let mut plan = empty_plan();
+    fill(&mut plan, tables);
+    plan
 }
 
 // Loads a trace over a plan; refused, it leaves the empty plan.

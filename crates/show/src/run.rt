@@ -10,7 +10,7 @@ use text::page::Lost;
 use text::told::{Last, put_decisions, put_last};
 
 // What follows the lines before a place: the state and, asked for, the events. All tables full, the lines before and the state are
-// under 50,000 bytes and the events under 55,000: each of the two fits the page.
+// under 50,000 bytes and the events under 55,000: each of the two fits the page. The events are handed on whether the state was lost or not.
 fn show_state(
     rt: &impl Print,
     out: &mut [u8],
@@ -19,11 +19,11 @@ fn show_state(
     plan: &Plan,
     steps: u64,
     queued: bool,
-) -> Result<Sheet, Lost> {
+) -> Sheet {
     let to = state(out, at, plan, steps);
-    let sheet = hand_on(rt, out, to, sheet)?;
+    let sheet = hand_on(rt, out, to, sheet);
     if !queued {
-        return Ok(sheet);
+        return sheet;
     }
     let to = events(out, 0, &plan.events);
     hand_on(rt, out, to, sheet)
@@ -31,7 +31,7 @@ fn show_state(
 
 fn show_last(rt: &impl Print, out: &mut [u8], sheet: Sheet, last: Last) -> Result<(), Lost> {
     let to = put_last(out, 0, last);
-    let sheet = hand_on(rt, out, to, sheet)?;
+    let sheet = hand_on(rt, out, to, sheet);
     close(rt, out, sheet, last)
 }
 
@@ -47,7 +47,7 @@ fn show_refused(
 ) -> Result<(), Lost> {
     let last = Last::StepRefused { number };
     let to = put_last(out, 0, last);
-    let sheet = show_state(rt, out, to, sheet, plan, steps, queued)?;
+    let sheet = show_state(rt, out, to, sheet, plan, steps, queued);
     close(rt, out, sheet, last)
 }
 
@@ -67,7 +67,7 @@ fn run(
         match stepped.answer {
             Ok(n) => {
                 let to = put_decisions(out, 0, &words, n);
-                sheet = show_state(rt, out, to, sheet, &plan, steps + 1, queued)?;
+                sheet = show_state(rt, out, to, sheet, &plan, steps + 1, queued);
             }
             Err(StepRefusal::NoEvent) => return show_last(rt, out, sheet, Last::End { steps }),
             Err(StepRefusal::NotPermitted) => {
@@ -77,15 +77,18 @@ fn run(
                 return show_refused(rt, out, sheet, &plan, steps, queued, 10);
             }
         }
+        if matches!(sheet, Sheet::Lost) {
+            return Err(Lost);
+        }
     }
     Err(Lost)
 }
 
-// All lines of a trace.
+// All lines of a trace. What could not be written is looked at after each step, and before the last line.
 pub fn show_trace(rt: &impl Print, bytes: &[u8], out: &mut [u8], asked: Asked) -> Result<(), Lost> {
     let loaded = planner::load(bytes);
     let to = tables(out, 0, &loaded.plan);
-    let sheet = show_state(rt, out, to, new_sheet(asked), &loaded.plan, 0, asked.events)?;
+    let sheet = show_state(rt, out, to, new_sheet(asked), &loaded.plan, 0, asked.events);
     match loaded.answer {
         Ok(()) => run(rt, loaded.plan, out, sheet, asked.events),
         Err(refusal) => {

@@ -12,11 +12,12 @@ pub struct Asked {
     pub digest: bool,
 }
 
-// The text is printed, or only its digest so far is kept.
+// The text is printed, or only its digest so far is kept; lost: what was handed on last could not be written.
 #[derive(Clone, Copy)]
 pub enum Sheet {
     Printed,
     Digested(u64),
+    Lost,
 }
 
 pub fn new_sheet(asked: Asked) -> Sheet {
@@ -27,24 +28,24 @@ pub fn new_sheet(asked: Asked) -> Sheet {
     }
 }
 
-// Hands on what stands before a place.
-pub fn hand_on(rt: &impl Print, out: &[u8], to: usize, sheet: Sheet) -> Result<Sheet, Lost> {
+// Hands on what stands before a place, also after a text that was lost.
+pub fn hand_on(rt: &impl Print, out: &[u8], to: usize, sheet: Sheet) -> Sheet {
     match sheet {
-        Sheet::Printed => {
-            write_page(rt, out, to)?;
-            Ok(Sheet::Printed)
-        }
-        Sheet::Digested(sum) => {
-            let text = out.get(..to).ok_or(Lost)?;
-            Ok(Sheet::Digested(digest(sum, text)))
-        }
+        Sheet::Printed | Sheet::Lost => match write_page(rt, out, to) {
+            Ok(()) => Sheet::Printed,
+            Err(Lost) => Sheet::Lost,
+        },
+        Sheet::Digested(sum) => match out.get(..to) {
+            Some(text) => Sheet::Digested(digest(sum, text)),
+            None => Sheet::Lost,
+        },
     }
 }
 
 // With a digest, how the trace ended and the digest.
 fn put_sum(out: &mut [u8], sheet: Sheet, last: Last) -> usize {
     match sheet {
-        Sheet::Printed => 0,
+        Sheet::Printed | Sheet::Lost => 0,
         Sheet::Digested(sum) => {
             let to = put_last(out, 0, last);
             let to = put_bytes(out, to, b"# digest ");
@@ -54,8 +55,11 @@ fn put_sum(out: &mut [u8], sheet: Sheet, last: Last) -> usize {
     }
 }
 
-// Prints what comes last of a trace.
+// Prints what comes last of a trace; nothing where the text before it was lost.
 pub fn close(rt: &impl Print, out: &mut [u8], sheet: Sheet, last: Last) -> Result<(), Lost> {
+    if matches!(sheet, Sheet::Lost) {
+        return Err(Lost);
+    }
     let to = put_sum(out, sheet, last);
     let to = put_bytes(out, to, b".\n");
     write_page(rt, out, to)

@@ -1,0 +1,2 @@
+-- The laws of a place in lent bytes.
+pub mod Places
