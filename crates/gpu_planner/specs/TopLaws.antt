@@ -49,7 +49,7 @@ plan_free t = arrivals_free t.jobs t.setting.jobs
 
 loaded_free : (r : Result Tables Refusal) → free_from (loaded r).plan.setting.jobs (loaded r).plan.events
 unfolding loaded refused plan_of empty_plan
-loaded_free (Ok t) = arrivals_free t.jobs t.setting.jobs
+loaded_free (Ok t) = plan_free t
 loaded_free (Err e) = λ i t h. ap used (get_or-replicate Sizes.events i empty_event empty_event h)
 
 -- of every load

@@ -1,4 +1,4 @@
--- Laws of the loaded tables over an empty plan: what they make of it is the plan of the load.
+-- Laws of a load by its tables: over an empty plan they make its plan, and their refusal is its answer.
 use Rattle.std.specs.Prelude.{◌≡◌, List, ℕ, length, Ok, Err}
 use Rattle.model.specs.Sizes as Sizes
 use Rattle.model.specs.Plan.{empty_plan}
